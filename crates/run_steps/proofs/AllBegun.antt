@@ -1,5 +1,5 @@
 -- Beginning all listed files keeps what stands of a run in which none was begun yet.
-use Rattle.std.proofs.Common.{◌≡◌, inl, inr, ℕ, zero, suc, ◌+◌, ◌≤◌, List, [], ◌∷◌, ◌++◌, length, map, take, append_assoc, Option, Some, None, IfSome, Result, Ok, Err, IfOk, IfErr, Vec, Global, refl, sym, ap, subst, ◌∙◌, arith}
+use Rattle.std.proofs.Common.{◌≡◌, inl, inr, ℕ, zero, suc, ◌+◌, ◌≤◌, List, [], ◌∷◌, ◌++◌, length, map, take, append_assoc, Option, Some, None, IfSome, Result, Ok, Err, IfOk, IfErr, Bool, true, false, refl, sym, ap, subst, ◌∙◌, arith}
 use Rattle.std.proofs.lemmas.List.{length-append}
 use Rattle.std.specs.Prelude.{slice_get}
 use Rattle.std.specs.List.{AllByRecursion, flat_map}
@@ -11,7 +11,6 @@ use Rattle.batch_worker.specs.Held.{notes_of}
 use Rattle.harvester.specs.Standing.{EndsAt}
 use Rattle.keeper.specs.Keeping.{Keeping, held_in}
 use Rattle.prospect.specs.declared.listed.Listed.{Listed}
-use Rattle.report.specs.declared.passing.Passing.{Passing}
 use Rattle.rounds.specs.Books.{carried_by, flat, held_notes, held_parcels, owed_notes}
 use Rattle.rounds.specs.Crewed.{lanings}
 use Rattle.rounds.specs.Words.{Words}
@@ -22,15 +21,17 @@ use Rattle.wire_base.specs.declared.numbers.Moment.{Moment}
 use Rattle.wire_base.specs.declared.parcel.Parcel.{Parcel}
 use Rattle.run_steps.specs.Began.{Began}
 use Rattle.run_steps.specs.Beginning.{Beginning}
-use Rattle.run_steps.specs.BeginsAll.{BeginsAll, BeginsFrom, BeginsSome, IsOfRuledInput}
+use Rattle.run_steps.specs.BeginsAll.{BeginsAll, BeginsFrom, BeginsSome, Came, IsOfRuledInput, came_of}
 use Rattle.run_steps.specs.Begun.{AreAllSeen, MayBegin, noted_begin}
 use Rattle.run_steps.specs.HiddenRows.{HidesBegun}
+use Rattle.run_steps.specs.MetBy.{phase_reading}
 use Rattle.run_steps.specs.RunState.{Finished, Leaving, Reading}
 use Rattle.run_steps.specs.SoFar.{SoFar, files_in}
 use Rattle.run_steps.specs.Stands.{Further, Stands}
 use Rattle.run_steps.specs.Telling.{TellMoments}
 use Rattle.run_steps.specs.Worked.{phase_begun}
 use Rattle.run_steps.specs.declared.begin_error.BeginError.{BeginError}
+use Rattle.run_steps.specs.declared.beginning.BegunFiles.{BegunFiles}
 use Rattle.run_steps.proofs.BeginningFiles.{BeginsBelow, IsToBegin, Leaves, leaves, one_ends, one_more}
 use Rattle.run_steps.proofs.BeginningOne.{AreBelow, Begins, at_phase, stands_at}
 use Rattle.run_steps.proofs.HiddenStands.{hides, hides_some}
@@ -147,15 +148,15 @@ module _ {T W L D : Type 0} (words : Words T W L D) (reads : (disk : D) → IfSo
   front_to_begin (suc count) slot [] are = tt
   front_to_begin (suc count) slot (one ∷ listed) are = (are.0, front_to_begin count (suc slot) listed are.1)
 
-  begins_from : (slot : ℕ) (listed : List Listed) (passed : List Passing) (old new : Beginning T W L) → AreToBegin slot listed → BeginsFrom words.tails start.settings start.opening now slot listed passed old new →
+  begins_from : (slot : ℕ) (listed : List Listed) (came : Came) (old new : Beginning T W L) → AreToBegin slot listed → BeginsFrom words.tails start.settings start.opening now slot listed came old new →
       BeginsBelow words reads counts start moments a b now slot old → BeginsBelow words reads counts start moments a b now (length listed + slot) new
-  begins_from slot [] passed old new to is begins =
+  begins_from slot [] came old new to is begins =
       subst (λ (n : ℕ). BeginsBelow words reads counts start moments a b now n new) (none_longer slot)
       (subst (λ (s : Beginning T W L). BeginsBelow words reads counts start moments a b now slot s) (sym is.1) begins)
     where
       none_longer : (n : ℕ) → n ≡ 0 + n
       none_longer n = omega arith
-  begins_from slot (one ∷ listed) passed old new to is begins =
+  begins_from slot (one ∷ listed) came old new to is begins =
       subst (λ (n : ℕ). BeginsBelow words reads counts start moments a b now n new) (one_longer (length listed))
       (begins_from (suc slot) listed is.later is.mid new to.1 is.rest (one_more words reads counts start moments a b now slot one to.0 old begins is.begun is.mid is.first))
     where
@@ -189,13 +190,13 @@ module _ {T W L D : Type 0} (words : Words T W L D) (reads : (disk : D) → IfSo
     at_first : BeginsBelow words reads counts start moments a b now 0 old
     at_first = nothing_begun words start moments a b now old so_far stands none_opened none_hidden ends
 
-    behind_some : (count : ℕ) (passed : List Passing) (mid : Beginning T W L) → BeginsFrom words.tails start.settings start.opening now 0 (take count start.listed) passed old mid →
+    behind_some : (count : ℕ) (came : Came) (mid : Beginning T W L) → BeginsFrom words.tails start.settings start.opening now 0 (take count start.listed) came old mid →
         BeginsBelow words reads counts start moments a b now (length (take count start.listed) + 0) mid
-    behind_some count passed mid is = begins_from 0 (take count start.listed) passed old mid (front_to_begin count 0 start.listed to_begin) is at_first
+    behind_some count came mid is = begins_from 0 (take count start.listed) came old mid (front_to_begin count 0 start.listed to_begin) is at_first
 
-    behind_all : (passed : List Passing) (mid : Beginning T W L) → BeginsFrom words.tails start.settings start.opening now 0 start.listed passed old mid →
+    behind_all : (came : Came) (mid : Beginning T W L) → BeginsFrom words.tails start.settings start.opening now 0 start.listed came old mid →
         BeginsBelow words reads counts start moments a b now (length start.listed + 0) mid
-    behind_all passed mid is = begins_from 0 start.listed passed old mid to_begin is at_first
+    behind_all came mid is = begins_from 0 start.listed came old mid to_begin is at_first
 
     told_then : (slot : ℕ) (listed : List Listed) (mid : Beginning T W L) (keeper : Keeping) → (begins : BeginsBelow words reads counts start moments a b now slot mid) → AreListedFrom start.listed 0 listed →
         TellMoments start.opening 0 listed mid.keeper keeper → StandsUncollected words reads counts start moments a b mid.folder.told mid.crew Reading begins.so_far.opened keeper
@@ -204,17 +205,17 @@ module _ {T W L D : Type 0} (words : Words T W L D) (reads : (disk : D) → IfSo
         (record { so_far = begins.so_far; opened_are = refl; stands = begins.stands; notes_are = begins.notes_are; none_hidden = begins.none_hidden })
 
     -- files are read on
-    pub all_begun : (passed : List Passing) (new : Beginning T W L) → BeginsAll words.tails start.settings start.opening now start.listed passed old new →
+    pub all_begun : (came : Came) (new : Beginning T W L) → BeginsAll words.tails start.settings start.opening now start.listed came old new →
         (opened : List Opened) × StandsUncollected words reads counts start moments a b new.folder.told new.crew Reading opened new.keeper
-    all_begun passed new is =
-        let begins = behind_all passed is.mid is.begins in
+    all_begun came new is =
+        let begins = behind_all came is.mid is.begins in
         let told = told_then (length start.listed + 0) start.listed is.mid new.keeper begins (listed_from 0 start.listed to_begin) is.tell in
         subst (λ (s : Beginning T W L). (opened : List Opened) × StandsUncollected words reads counts start moments a b s.folder.told s.crew Reading opened s.keeper) (sym is.others) (begins.so_far.opened, told)
 
     -- the keeper was told when each file was changed that was begun
-    pub all_are_seen : (passed : List Passing) (new : Beginning T W L) → BeginsAll words.tails start.settings start.opening now start.listed passed old new → AreAllSeen start.opening start.listed new.keeper.tracked.notes
-    all_are_seen passed new is =
-        let begins = behind_all passed is.mid is.begins in
+    pub all_are_seen : (came : Came) (new : Beginning T W L) → BeginsAll words.tails start.settings start.opening now start.listed came old new → AreAllSeen start.opening start.listed new.keeper.tracked.notes
+    all_are_seen came new is =
+        let begins = behind_all came is.mid is.begins in
         let there = listed_from 0 start.listed to_begin in
         let before : StandsUncollected words reads counts start moments a b is.mid.folder.told is.mid.crew Reading begins.so_far.opened is.mid.keeper =
         record { so_far = begins.so_far; opened_are = refl; stands = begins.stands; notes_are = begins.notes_are; none_hidden = begins.none_hidden } in
@@ -225,35 +226,46 @@ module _ {T W L D : Type 0} (words : Words T W L D) (reads : (disk : D) → IfSo
     pub some_begun : (what : BeginError) (new : Beginning T W L) → BeginsSome words.tails start.settings start.opening now start.listed what old new → Leaves words reads counts start moments a b now new
     some_begun what new (inl is) =
         let begins = subst (λ (n : ℕ). BeginsBelow words reads counts start moments a b now n is.mid) (none_more (length (take is.count start.listed)) ∙ front_long start.listed is.count is.one is.is)
-        (behind_some is.count is.passed is.mid is.begins) in
+        (behind_some is.count is.came is.mid is.begins) in
         let of = at_place (IsOfRuledInput start.settings) start.listed is.count is.one of_inputs is.is in
         one_ends words reads counts start moments a b now is.count is.one
-        (record { there = is.is; rule = of.rule; rule_is = of.rule_is; in_range = of.in_range }) is.mid begins what new is.ended
+        (record { there = is.is; rule = of.rule; rule_is = of.rule_is; in_range = of.in_range }) is.mid begins is.ended.what new is.ended.begins
       where
         none_more : (n : ℕ) → n + 0 ≡ n
         none_more n = omega arith
-    some_begun what new (inr (memory, inl is)) = leaves words reads counts start moments a b now new (length (take is.count start.listed) + 0) (behind_some is.count is.passed new is.begins)
+    some_begun what new (inr (memory, inl is)) = leaves words reads counts start moments a b now new (length (take is.count start.listed) + 0) (behind_some is.count is.came new is.begins)
     some_begun what new (inr (memory, inr is)) =
-        let told = told_then (length start.listed + 0) (take is.tell.count start.listed) is.mid new.keeper (behind_all is.passed is.mid is.begins) (front_listed is.tell.count 0 start.listed to_begin) is.tell.tell in
+        let told = told_then (length start.listed + 0) (take is.tell.count start.listed) is.mid new.keeper (behind_all is.came is.mid is.begins) (front_listed is.tell.count 0 start.listed to_begin) is.tell.tell in
         subst (λ (s : Beginning T W L). Further words start (at_phase words start moments a b s.folder.told s.crew s.keeper Leaving)) (sym is.others)
         (record {
           so_far = told.so_far;
           stands = stands_at words start moments a b is.mid.folder.told is.mid.folder.told is.mid.crew new.keeper Leaving told.so_far (λ e. let no : Leaving ≡ Finished = e in cc) tt told.stands.files.shown told.stands;
         })
 
+    left : (new : Beginning T W L) (keeper : Keeping) (so_far : SoFar) → Stands words start (at_phase words start moments a b new.folder.told new.crew keeper Reading) so_far →
+        Further words start (at_phase words start moments a b new.folder.told new.crew keeper Leaving)
+    left new keeper so_far stands = record {
+      so_far = so_far;
+      stands = stands_at words start moments a b new.folder.told new.folder.told new.crew keeper Leaving so_far (λ e. let no : Leaving ≡ Finished = e in cc) tt stands.files.shown stands;
+    }
+
+    -- files are read on, or some failed
+    read_on : (faulty : Bool) (new : Beginning T W L) (keeper : Keeping) → Further words start (at_phase words start moments a b new.folder.told new.crew keeper Reading) →
+        Further words start (at_phase words start moments a b new.folder.told new.crew keeper (phase_reading faulty))
+    read_on false new keeper further = further
+    read_on true new keeper further = left new keeper further.so_far further.stands
+
     -- by what beginning them answered, and then telling of hidden rows
-    pub stands_begun : (result hid : Result (Vec Passing Global) BeginError) (new : Beginning T W L) (keeper : Keeping) → IfOk result (λ passed. BeginsAll words.tails start.settings start.opening now start.listed passed.items old new) →
+    pub stands_begun : (result hid : Result BegunFiles BeginError) (new : Beginning T W L) (keeper : Keeping) → IfOk result (λ files. BeginsAll words.tails start.settings start.opening now start.listed (came_of files) old new) →
         IfErr result (λ what. BeginsSome words.tails start.settings start.opening now start.listed what old new) → new.keeper.store.rows ≡ start.opening →
         HidesBegun start.settings.inputs start.listed result hid new.keeper keeper → Further words start (at_phase words start moments a b new.folder.told new.crew keeper (phase_begun hid))
-    stands_begun (Ok passed) (Ok same) new keeper begun ended rows hidden =
-        let all = all_begun passed.items new begun in hides words reads counts start moments a b new.folder.told new.crew Reading all.0 new.keeper keeper all.1 rows hidden.1
-    stands_begun (Ok passed) (Err what) new keeper begun ended rows hidden =
-        let all = all_begun passed.items new begun in
+    stands_begun (Ok files) (Ok same) new keeper begun ended rows hidden =
+        let all = all_begun (came_of files) new begun in
+        read_on same.faulty new keeper (hides words reads counts start moments a b new.folder.told new.crew Reading all.0 new.keeper keeper all.1 rows hidden.1)
+    stands_begun (Ok files) (Err what) new keeper begun ended rows hidden =
+        let all = all_begun (came_of files) new begun in
         let some = hides_some words reads counts start moments a b new.folder.told new.crew Reading all.0 new.keeper keeper all.1 rows hidden.1 in
-        record {
-          so_far = some.so_far;
-          stands = stands_at words start moments a b new.folder.told new.folder.told new.crew keeper Leaving some.so_far (λ e. let no : Leaving ≡ Finished = e in cc) tt some.stands.files.shown some.stands;
-        }
+        left new keeper some.so_far some.stands
     stands_begun (Err what) (Ok same) new keeper begun ended rows hidden = absurd hidden
     stands_begun (Err what) (Err other) new keeper begun ended rows hidden =
         subst (λ (k : Keeping). Further words start (at_phase words start moments a b new.folder.told new.crew k Leaving)) (sym hidden.1) (some_begun what new ended)

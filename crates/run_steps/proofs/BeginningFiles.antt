@@ -21,7 +21,7 @@ use Rattle.harvester.specs.declared.stage.Stage.TheVariants as stage
 use Rattle.keeper.specs.Keeping.{Keeping}
 use Rattle.multiline_core.specs.Rule.{IsGroupRule}
 use Rattle.outside.specs.Folders.{FolderHistory, TellsOpening}
-use Rattle.outside.specs.declared.failed.FolderError.TheVariants.{Failed, NoMemory as WithoutMemory}
+use Rattle.outside.specs.declared.failed.FolderError.TheVariants.{Failed as Failing, NoMemory as WithoutMemory}
 use Rattle.outside.specs.Tails.{TailHistory}
 use Rattle.outside.specs.declared.history.Look.{Look}
 use Rattle.prospect.specs.declared.listed.Listed.{Listed}
@@ -52,7 +52,7 @@ use Rattle.run_steps.proofs.BeginningOne.{Begins, IsBegunSo, at_phase, stands_at
 use Rattle.run_steps.proofs.BeginningSteps.{begins_next, left_after, shown_tells, stands_left}
 use Rattle.run_steps.proofs.TailOpened.{HasTail, IsShown, has_tail, opened_now}
 use Rattle.run_steps.specs.declared.begin.Admission.{Admission}
-use Rattle.run_steps.specs.declared.begin.Admission.TheVariants.{Followed, Skipped}
+use Rattle.run_steps.specs.declared.begin.Admission.TheVariants.{Failed, Followed, Skipped}
 
 module _ {T W L D : Type 0} (words : Words T W L D) (reads : (disk : D) → IfSome (words.disks.contents disk) (words.disks.images disk))
     (counts : (disk : D) (at : ℕ) (image : List ℕ) → at ≤ words.disks.moment disk → words.disks.images disk image → words.disks.images_since disk at image)
@@ -114,9 +114,9 @@ module _ {T W L D : Type 0} (words : Words T W L D) (reads : (disk : D) → IfSo
     none_opened new none = later_slot new slot (moved new slot none.crew none.keeper (with_shown new.folder.told
         (none_shown begins.so_far listed.path words.tails old.folder.states old.folder.present start.shown old.folder.told new.folder.told begins.stands.files.shown none.opens.told)))
 
-    pub failed_opening : (new : Beginning T W L) → OpensNone words.tails (file_at start.opening slot listed now) (Err Failed) old new → Leaves new
-    failed_opening new none = leaves new slot (moved new slot none.crew none.keeper (with_shown new.folder.told
-        (error_shown begins.so_far listed.path words.tails old.folder.states old.folder.present Failed start.shown old.folder.told new.folder.told begins.stands.files.shown none.opens.told)))
+    pub failed_opening : (new : Beginning T W L) → OpensNone words.tails (file_at start.opening slot listed now) (Err Failing) old new → BeginsBelow (suc slot) new
+    failed_opening new none = later_slot new slot (moved new slot none.crew none.keeper (with_shown new.folder.told
+        (error_shown begins.so_far listed.path words.tails old.folder.states old.folder.present Failing start.shown old.folder.told new.folder.told begins.stands.files.shown none.opens.told)))
 
     pub without_memory : (new : Beginning T W L) → OpensNone words.tails (file_at start.opening slot listed now) (Err WithoutMemory) old new → Leaves new
     without_memory new none = leaves new slot (moved new slot none.crew none.keeper (with_shown new.folder.told
@@ -287,10 +287,11 @@ module _ {T W L D : Type 0} (words : Words T W L D) (reads : (disk : D) → IfSo
     one_more (Skipped why.Doubled) new is = absurd is
     one_more (Skipped why.Old) new is = absurd is
     one_more (Skipped why.Small) new is = later_slot new slot (closed_again _ new is)
+    one_more Failed new (inl none) = failed_opening new none
+    one_more Failed new (inr closed) = later_slot new slot (closed_again _ new closed)
 
     pub one_ends : (what : BeginError) (new : Beginning T W L) → BeginsOne words.tails start.settings (file_at start.opening slot listed now) (Err what) old new → Leaves new
-    one_ends error.FolderFault new (inl none) = failed_opening new none
-    one_ends error.FolderFault new (inr closed) = leaves new slot (closed_again _ new closed)
+    one_ends error.FolderFault new is = absurd is
     one_ends error.NoMemory new (inl none) = without_memory new none
     one_ends error.NoMemory new (inr (inl up)) = given_up new up
     one_ends error.NoMemory new (inr (inr closed)) = leaves new slot (closed_again _ new closed)

@@ -1,5 +1,6 @@
 -- Files begun one behind the other, in the order of their slots: one more, and what stays over all of them.
-use Rattle.std.proofs.Common.{◌≡◌, ◌⊎◌, inl, inr, ⊎_elim, ℕ, zero, suc, ◌+◌, ◌-◌, ◌^◌, ◌≤◌, ◌<◌, List, [], ◌∷◌, ◌++◌, length, take, append-nil, append_assoc, Some, Result, Ok, Err, IfErr, IsErrAnd, refl, sym, ap, subst, ◌∙◌, arith}
+use Rattle.std.proofs.Common.{◌≡◌, ◌⊎◌, ◌||◌, inl, inr, ⊎_elim, ℕ, zero, suc, ◌+◌, ◌-◌, ◌^◌, ◌≤◌, ◌<◌, Bool, true, false, List, [], ◌∷◌, ◌++◌, length, take, append-nil, append_assoc, Some, Result, Ok, Err, IfOk, IfErr, IsErrAnd, refl, sym, ap, subst, ◌∙◌, arith}
+use Rattle.std.proofs.Math.Bool.{or-false, or-true, or_assoc}
 use Rattle.std.proofs.lemmas.Bool.{cases_lt}
 use Rattle.std.proofs.lemmas.Option.{slice_get_within}
 use Rattle.std.specs.List.{AllByRecursion}
@@ -9,6 +10,7 @@ use Rattle.keeper.specs.Keeping.{Keeping}
 use Rattle.outside.specs.Counts.{Rose, added_counts}
 use Rattle.prospect.specs.declared.listed.Listed.{Listed}
 use Rattle.report.specs.declared.passing.Passing.{Passing}
+use Rattle.report.specs.declared.passing.Why.{Why}
 use Rattle.rounds.specs.Crewed.{lanings}
 use Rattle.rounds.specs.Words.{TailWords}
 use Rattle.wire_base.specs.declared.note.Begin.{Begin}
@@ -16,8 +18,9 @@ use Rattle.wire_base.specs.declared.note.Note.{Note}
 use Rattle.wire_base.specs.declared.numbers.Moment.{Moment}
 use Rattle.wire_base.specs.declared.numbers.Slot.{Slot}
 use Rattle.wire_base.specs.declared.row.Row.{Row}
+use Rattle.run_steps.specs.BeginErrors.{ended_behind}
 use Rattle.run_steps.specs.Beginning.{Beginning, BeginsOne, ListedFile}
-use Rattle.run_steps.specs.BeginsAll.{AreSlotsBelow, BeginsAll, BeginsFrom, BeginsOrPasses, BeginsSome, EndsBeginning, EndsInFiles, EndsInOne, IsSlotBelow, KeepsOthers, file_at, many_harvesters, passed_by}
+use Rattle.run_steps.specs.BeginsAll.{AreSlotsBelow, BeginsAll, BeginsFrom, BeginsOrPasses, BeginsSome, Came, EndsBeginning, EndsInFiles, EndsInOne, IsSlotBelow, KeepsOthers, both_came, came_by, came_of, file_at, has_failed, many_harvesters, none_came, passed_by}
 use Rattle.run_steps.specs.BeginFor.{start_among}
 use Rattle.run_steps.specs.KnownKeys.{KnowsAmong}
 use Rattle.run_steps.specs.Telling.{TellMoments, TellSomeMoments, TellsNotes}
@@ -29,9 +32,10 @@ use Rattle.run_steps.proofs.Keeps.{BeginKeeps, TakesOne, as_many_lanes, begin_ke
 use Rattle.run_steps.proofs.KnownKeys.{IsOfKeys, of_front, told_knows}
 use Rattle.run_steps.proofs.Notes.{moments_are_told}
 use Rattle.run_steps.proofs.Tails.{as_many_harvesters, as_many_open, followed_by}
-use Rattle.run_steps.proofs.MetBy.{rose_since}
+use Rattle.run_steps.proofs.ReadersGo.{rose_on, rose_since}
 use Rattle.run_steps.specs.declared.begin.Admission.{Admission}
-use Rattle.run_steps.specs.declared.begin.Admission.TheVariants.{Followed, Skipped}
+use Rattle.run_steps.specs.declared.begin.Admission.TheVariants.{Failed, Followed, Skipped}
+use Rattle.run_steps.specs.declared.beginning.BegunFiles.{BegunFiles}
 
 pub take_one : (listed : List Listed) (count : ℕ) (one : Listed) → slice_get listed count ≡ Some one → take (suc count) listed ≡ take count listed ++ one ∷ []
 take_one [] count one is = absurd cc
@@ -42,6 +46,19 @@ take_short : (count : ℕ) (listed : List Listed) → length (take count listed)
 take_short zero listed = omega arith
 take_short (suc count) [] = omega arith
 take_short (suc count) (one ∷ listed) = let rest = take_short count listed in omega (arith, rest)
+
+-- ---- what came of some, and then of others
+
+abbrev pub came_so : List Passing → Bool → Came
+came_so passed faulty = record { passed = passed; faulty = faulty }
+
+came_none : (came : Came) → both_came came none_came ≡ came
+came_none came = ap (λ (l : List Passing). came_so l (came.faulty || false)) (append-nil came.passed) ∙ ap (came_so came.passed) (or-false came.faulty)
+
+came_assoc : (one two three : Came) → both_came (both_came one two) three ≡ both_came one (both_came two three)
+came_assoc one two three =
+    ap (λ (l : List Passing). came_so l ((one.faulty || two.faulty) || three.faulty)) (append_assoc one.passed two.passed three.passed)
+    ∙ ap (came_so (one.passed ++ (two.passed ++ three.passed))) (or_assoc one.faulty two.faulty three.faulty)
 
 -- a tail that met a fault leaves it with the folder
 closing_rose : (count faults now : ℕ) → Rose 0 faults → added_counts count faults ≤ now → Rose count now
@@ -131,6 +148,7 @@ module _ {T W L : Type 0} (tails : TailWords T) (settings : Settings) (rows : Li
       at_most_one : (r : Result Admission BeginError) → followed_by r ≤ 1
       at_most_one (Ok Followed) = omega arith
       at_most_one (Ok (Skipped why)) = omega arith
+      at_most_one (Ok Failed) = omega arith
       at_most_one (Err what) = omega arith
 
       by_lanes : (most : ℕ) → suc slot ≤ most → AreSlotsBelow most (lanings old.crew.lanes.items) →
@@ -140,9 +158,9 @@ module _ {T W L : Type 0} (tails : TailWords T) (settings : Settings) (rows : Li
           let its = ap (λ (g : Begin). g.slot.0) (takes.opened.begun ∙ takes.opened.begins.is) in
           each_still takes.harvester takes.number (lanings old.crew.lanes.items) (lanings new.crew.lanes.items) takes.admits (IsSlotBelow most) (omega (arith, its, le)) below
 
-  pub from_keeps : (slot : ℕ) (listed : List Listed) (passed : List Passing) (old new : Beginning T W L) → BeginsFrom tails settings rows now slot listed passed old new → KeepsSteps (length listed + slot) (length listed) old new
-  from_keeps slot [] passed old new is = none_keeps (0 + slot) old new is.1
-  from_keeps slot (one ∷ listed) passed old new is =
+  pub from_keeps : (slot : ℕ) (listed : List Listed) (came : Came) (old new : Beginning T W L) → BeginsFrom tails settings rows now slot listed came old new → KeepsSteps (length listed + slot) (length listed) old new
+  from_keeps slot [] came old new is = none_keeps (0 + slot) old new is.1
+  from_keeps slot (one ∷ listed) came old new is =
       subst (λ (n : ℕ). KeepsSteps (suc (length listed) + slot) n old new) (one_first (length listed))
       (keeps_then (suc (length listed) + slot) 1 (length listed) old is.mid new
       (higher (suc slot) (suc (length listed) + slot) 1 old is.mid (omega arith) (one_keeps slot one (Ok is.begun) old is.mid is.first))
@@ -150,6 +168,37 @@ module _ {T W L : Type 0} (tails : TailWords T) (settings : Settings) (rows : Li
     where
       one_first : (n : ℕ) → 1 + n ≡ suc n
       one_first n = omega arith
+
+  -- ---- faults
+
+  -- a file whose opening failed, or of which a read did, leaves its fault with the folder
+  failed_rose : (file : ListedFile) (old new : Beginning T W L) → BeginsOne tails settings file (Ok Failed) old new → Rose old.folder.faults new.folder.faults
+  failed_rose file old new (inl none) = none.opens.failed_only_where_faults_rose refl
+  failed_rose file old new (inr closed) =
+      let asks = closed.closed.why.asks in
+      let rose : Rose 0 (tails.faults closed.closed.asked) =
+      subst (λ (n : ℕ). Rose n (tails.faults closed.closed.asked)) closed.opened.opens.fresh (asks.failed_only_where_faults_rose refl) in
+      rose_since old.folder.faults closed.mid.folder.faults new.folder.faults closed.opened.opens.faults_never_fall
+      (closing_rose closed.mid.folder.faults (tails.faults closed.closed.asked) new.folder.faults rose closed.closed.closed.closes.counts_faults)
+
+  pub from_rose : (slot : ℕ) (listed : List Listed) (came : Came) (old new : Beginning T W L) → BeginsFrom tails settings rows now slot listed came old new → came.faulty ≡ true → Rose old.folder.faults new.folder.faults
+  from_rose slot [] came old new is faulty = absurd (let q : false ≡ true = sym (ap (λ (c : Came). c.faulty) is.0) ∙ faulty in cc)
+  from_rose slot (one ∷ listed) came old new is faulty = by_begun is.begun is.first (sym (ap (λ (c : Came). c.faulty) is.came_is) ∙ faulty)
+    where
+      later_rose : is.later.faulty ≡ true → Rose old.folder.faults new.folder.faults
+      later_rose later = rose_since old.folder.faults is.mid.folder.faults new.folder.faults (one_keeps slot one (Ok is.begun) old is.mid is.first).faults_never_fall
+          (from_rose (suc slot) listed is.later is.mid new is.rest later)
+
+      by_begun : (begun : Admission) → BeginsOne tails settings (file_at rows slot one now) (Ok begun) old is.mid → (has_failed begun || is.later.faulty) ≡ true → Rose old.folder.faults new.folder.faults
+      by_begun Followed first later = later_rose later
+      by_begun (Skipped why) first later = later_rose later
+      by_begun Failed first later = rose_on old.folder.faults is.mid.folder.faults new.folder.faults (failed_rose (file_at rows slot one now) old is.mid first)
+          (from_keeps (suc slot) listed is.later is.mid new is.rest).faults_never_fall
+
+  pub begun_rose : (listed : List Listed) (result : Result BegunFiles BeginError) (old new : Beginning T W L) → IfOk result (λ files. BeginsAll tails settings rows now listed (came_of files) old new) →
+      IfOk result (λ files. files.faulty ≡ true → Rose old.folder.faults new.folder.faults)
+  begun_rose listed (Err what) old new begins = tt
+  begun_rose listed (Ok files) old new begins = λ faulty. subst (λ (s : Beginning T W L). Rose old.folder.faults s.folder.faults) (sym begins.others) (from_rose 0 listed (came_of files) old begins.mid begins.begins faulty)
 
   -- ---- keys
 
@@ -160,10 +209,10 @@ module _ {T W L : Type 0} (tails : TailWords T) (settings : Settings) (rows : Li
       (λ tells. told_knows keys (record { 0 = slot }) listed (start_among rows listed) old.keeper new.keeper of tells knows)
       (begin_keeps tails settings (file_at rows slot listed now) result old new is).keeper
 
-  pub from_knows : (keys : List (List ℕ)) (slot : ℕ) (listed : List Listed) (passed : List Passing) (old new : Beginning T W L) → AllByRecursion (IsOfKeys keys) listed →
-      BeginsFrom tails settings rows now slot listed passed old new → KnowsAmong keys old.keeper → KnowsAmong keys new.keeper
-  from_knows keys slot [] passed old new of is knows = subst (λ (s : Beginning T W L). KnowsAmong keys s.keeper) (sym is.1) knows
-  from_knows keys slot (one ∷ listed) passed old new of is knows =
+  pub from_knows : (keys : List (List ℕ)) (slot : ℕ) (listed : List Listed) (came : Came) (old new : Beginning T W L) → AllByRecursion (IsOfKeys keys) listed →
+      BeginsFrom tails settings rows now slot listed came old new → KnowsAmong keys old.keeper → KnowsAmong keys new.keeper
+  from_knows keys slot [] came old new of is knows = subst (λ (s : Beginning T W L). KnowsAmong keys s.keeper) (sym is.1) knows
+  from_knows keys slot (one ∷ listed) came old new of is knows =
       from_knows keys (suc slot) listed is.later is.mid new of.1 is.rest (one_knows keys slot one (Ok is.begun) old is.mid of.0 is.first knows)
 
   keep_others : (most top count : ℕ) (old new : Beginning T W L) → top ≤ most → count ≤ most → KeepsSteps top count old new → KeepsOthers most old new
@@ -190,10 +239,10 @@ module _ {T W L : Type 0} (tails : TailWords T) (settings : Settings) (rows : Li
   })
 
   module _ (listed : List Listed) (old new : Beginning T W L) where
-    some_keep : (count : ℕ) (passed : List Passing) (mid : Beginning T W L) → BeginsFrom tails settings rows now 0 (take count listed) passed old mid → KeepsOthers (length listed) old mid
-    some_keep count passed mid begins =
+    some_keep : (count : ℕ) (came : Came) (mid : Beginning T W L) → BeginsFrom tails settings rows now 0 (take count listed) came old mid → KeepsOthers (length listed) old mid
+    some_keep count came mid begins =
         let few = take_shorter count listed in
-        keep_others (length listed) (length (take count listed) + 0) (length (take count listed)) old mid (omega (arith, few)) few (from_keeps 0 (take count listed) passed old mid begins)
+        keep_others (length listed) (length (take count listed) + 0) (length (take count listed)) old mid (omega (arith, few)) few (from_keeps 0 (take count listed) came old mid begins)
 
     pub files_keep : (what : BeginError) → EndsInFiles tails settings rows now listed what old new → KeepsOthers (length listed) old new
     files_keep what (inl is) =
@@ -201,15 +250,15 @@ module _ {T W L : Type 0} (tails : TailWords T) (settings : Settings) (rows : Li
         let short = take_short is.count listed in
         keep_others (length listed) (suc is.count) (length (take is.count listed) + 1) old new (omega (arith, inside)) (omega (arith, inside, short))
         (keeps_then (suc is.count) (length (take is.count listed)) 1 old is.mid new
-        (higher (length (take is.count listed) + 0) (suc is.count) (length (take is.count listed)) old is.mid (omega (arith, short)) (from_keeps 0 (take is.count listed) is.passed old is.mid is.begins))
-        (one_keeps is.count is.one (Err what) is.mid new is.ended))
-    files_keep what (inr (memory, is)) = some_keep is.count is.passed new is.begins
+        (higher (length (take is.count listed) + 0) (suc is.count) (length (take is.count listed)) old is.mid (omega (arith, short)) (from_keeps 0 (take is.count listed) is.came old is.mid is.begins))
+        (one_keeps is.count is.one (Err is.ended.what) is.mid new is.ended.begins))
+    files_keep what (inr (memory, is)) = some_keep is.count is.came new is.begins
 
-    pub all_keep : (passed : List Passing) → BeginsAll tails settings rows now listed passed old new → KeepsOthers (length listed) old new
-    all_keep passed is =
+    pub all_keep : (came : Came) → BeginsAll tails settings rows now listed came old new → KeepsOthers (length listed) old new
+    all_keep came is =
         let more = moments_are_told rows 0 listed is.mid.keeper new.keeper is.tell in
         moments_keep (length listed) more.more old is.mid new
-        (keep_others (length listed) (length listed + 0) (length listed) old is.mid (omega arith) (omega arith) (from_keeps 0 listed passed old is.mid is.begins)) more.tells is.others
+        (keep_others (length listed) (length listed + 0) (length listed) old is.mid (omega arith) (omega arith) (from_keeps 0 listed came old is.mid is.begins)) more.tells is.others
 
     pub some_keeps : (what : BeginError) → BeginsSome tails settings rows now listed what old new → KeepsOthers (length listed) old new
     some_keeps what (inl is) = files_keep what (inl is)
@@ -217,29 +266,25 @@ module _ {T W L : Type 0} (tails : TailWords T) (settings : Settings) (rows : Li
     some_keeps what (inr (memory, inr is)) =
         let more = moments_are_told rows 0 (take is.tell.count listed) is.mid.keeper new.keeper is.tell.tell in
         moments_keep (length listed) more.more old is.mid new
-        (keep_others (length listed) (length listed + 0) (length listed) old is.mid (omega arith) (omega arith) (from_keeps 0 listed is.passed old is.mid is.begins)) more.tells is.others
+        (keep_others (length listed) (length listed + 0) (length listed) old is.mid (omega arith) (omega arith) (from_keeps 0 listed is.came old is.mid is.begins)) more.tells is.others
 
     -- why it ended early
     pub begin_ends : (what : BeginError) → BeginsSome tails settings rows now listed what old new → EndsBeginning (length listed) what old new
     begin_ends what (inr is) = subst (λ (m : BeginError). EndsBeginning (length listed) m old new) (sym is.0) tt
-    begin_ends begin.FolderFault (inl is) =
-        let keeps = from_keeps 0 (take is.count listed) is.passed old is.mid is.begins in
-        rose_since old.folder.faults is.mid.folder.faults new.folder.faults keeps.faults_never_fall (by_case is.ended)
+    begin_ends what (inl is) = subst (λ (m : BeginError). EndsBeginning (length listed) m old new) (sym is.ended.error_is) (by_case is.came.faulty refl is.ended.what is.ended.begins)
       where
-        -- the opening failed, or a read of its tail did
-        by_case : BeginsOne tails settings (file_at rows is.count is.one now) (Err begin.FolderFault) is.mid new → Rose is.mid.folder.faults new.folder.faults
-        by_case (inl none) = none.opens.failed_only_where_faults_rose refl
-        by_case (inr closed) =
-            let asks = closed.closed.why.asks in
-            let rose : Rose 0 (tails.faults closed.closed.asked) =
-            subst (λ (n : ℕ). Rose n (tails.faults closed.closed.asked)) closed.opened.opens.fresh (asks.failed_only_where_faults_rose refl) in
-            rose_since is.mid.folder.faults closed.mid.folder.faults new.folder.faults closed.opened.opens.faults_never_fall
-            (closing_rose closed.mid.folder.faults (tails.faults closed.closed.asked) new.folder.faults rose closed.closed.closed.closes.counts_faults)
-    begin_ends begin.NoMemory (inl is) = tt
-    begin_ends (begin.NoNative other) (inl is) =
-        let inside = slice_get_within listed is.count is.one is.is in
-        let its = ap (λ (s : Slot). s.0) is.ended.0 in
-        omega (arith, inside, its)
+        by_case : (faulty : Bool) → is.came.faulty ≡ faulty → (met : BeginError) → BeginsOne tails settings (file_at rows is.count is.one now) (Err met) is.mid new → EndsBeginning (length listed) (ended_behind faulty met) old new
+        by_case false is_faulty begin.NoMemory ended = tt
+        by_case false is_faulty begin.FolderFault ended = absurd ended
+        by_case false is_faulty (begin.NoNative other) ended =
+            let inside = slice_get_within listed is.count is.one is.is in
+            let its = ap (λ (s : Slot). s.0) ended.0 in
+            omega (arith, inside, its)
+        by_case true is_faulty begin.NoMemory ended = tt
+        by_case true is_faulty begin.FolderFault ended = absurd ended
+        by_case true is_faulty (begin.NoNative other) ended = rose_on old.folder.faults is.mid.folder.faults new.folder.faults
+            (from_rose 0 (take is.count listed) is.came old is.mid is.begins is_faulty)
+            (one_keeps is.count is.one (Err (begin.NoNative other)) is.mid new ended).faults_never_fall
 
     pub files_end : {A : Type 0} (result : Result A BeginError) (what : BeginError) → IsErrAnd result (λ other. other ≡ what) → EndsInFiles tails settings rows now listed what old new →
         IfErr result (λ other. EndsBeginning (length listed) other old new)
@@ -253,26 +298,26 @@ module _ {T W L : Type 0} (tails : TailWords T) (settings : Settings) (rows : Li
 
   -- ---- one more
 
-  pub from_then : (slot : ℕ) (listed : List Listed) (one : Listed) (passed more : List Passing) (old mid new : Beginning T W L) → BeginsFrom tails settings rows now slot listed passed old mid →
-      BeginsOrPasses tails settings (file_at rows (length listed + slot) one now) more mid new → BeginsFrom tails settings rows now slot (listed ++ one ∷ []) (passed ++ more) old new
-  from_then slot [] one passed more old mid new is then = record {
+  pub from_then : (slot : ℕ) (listed : List Listed) (one : Listed) (came more : Came) (old mid new : Beginning T W L) → BeginsFrom tails settings rows now slot listed came old mid →
+      BeginsOrPasses tails settings (file_at rows (length listed + slot) one now) more mid new → BeginsFrom tails settings rows now slot (listed ++ one ∷ []) (both_came came more) old new
+  from_then slot [] one came more old mid new is then = record {
     begun = then.begun;
     mid = new;
     first = subst (λ (n : ℕ). BeginsOne tails settings (file_at rows n one now) (Ok then.begun) old new) (none_longer slot)
         (subst (λ (s : Beginning T W L). BeginsOne tails settings (file_at rows (0 + slot) one now) (Ok then.begun) s new) is.1 then.begins);
-    later = [];
-    passed_are = ap (λ (l : List Passing). l ++ more) is.0 ∙ then.more_is ∙ sym (append-nil (passed_by then.begun one));
+    later = none_came;
+    came_is = ap (λ (c : Came). both_came c more) is.0 ∙ then.more_is ∙ sym (came_none (came_by then.begun one));
     rest = (refl, refl);
   }
     where
       none_longer : (n : ℕ) → 0 + n ≡ n
       none_longer n = omega arith
-  from_then slot (first ∷ listed) one passed more old mid new is then = record {
+  from_then slot (first ∷ listed) one came more old mid new is then = record {
     begun = is.begun;
     mid = is.mid;
     first = is.first;
-    later = is.later ++ more;
-    passed_are = ap (λ (l : List Passing). l ++ more) is.passed_are ∙ append_assoc (passed_by is.begun first) is.later more;
+    later = both_came is.later more;
+    came_is = ap (λ (c : Came). both_came c more) is.came_is ∙ came_assoc (came_by is.begun first) is.later more;
     rest = from_then (suc slot) listed one is.later more is.mid mid new is.rest
         (subst (λ (n : ℕ). BeginsOrPasses tails settings (file_at rows n one now) more mid new) (one_longer (length listed)) then);
   }
@@ -280,8 +325,8 @@ module _ {T W L : Type 0} (tails : TailWords T) (settings : Settings) (rows : Li
       one_longer : (n : ℕ) → suc n + slot ≡ n + suc slot
       one_longer n = omega arith
 
-  module _ (listed : List Listed) (count : ℕ) (one : Listed) (there : slice_get listed count ≡ Some one) (passed : List Passing) (old mid : Beginning T W L)
-      (begins : BeginsFrom tails settings rows now 0 (take count listed) passed old mid) where
+  module _ (listed : List Listed) (count : ℕ) (one : Listed) (there : slice_get listed count ≡ Some one) (came : Came) (old mid : Beginning T W L)
+      (begins : BeginsFrom tails settings rows now 0 (take count listed) came old mid) where
     at_count : length (take count listed) + 0 ≡ count
     at_count = let long = front_long listed count one there in omega (arith, long)
       where
@@ -290,51 +335,51 @@ module _ {T W L : Type 0} (tails : TailWords T) (settings : Settings) (rows : Li
         front_long (first ∷ all) zero x is = refl
         front_long (first ∷ all) (suc n) x is = ap suc (front_long all n x is)
 
-    pub begins_next : (more : List Passing) (new : Beginning T W L) → BeginsOrPasses tails settings (file_at rows count one now) more mid new →
-        BeginsFrom tails settings rows now 0 (take (suc count) listed) (passed ++ more) old new
-    begins_next more new then = subst (λ (l : List Listed). BeginsFrom tails settings rows now 0 l (passed ++ more) old new) (sym (take_one listed count one there))
-        (from_then 0 (take count listed) one passed more old mid new begins
+    pub begins_next : (more : Came) (new : Beginning T W L) → BeginsOrPasses tails settings (file_at rows count one now) more mid new →
+        BeginsFrom tails settings rows now 0 (take (suc count) listed) (both_came came more) old new
+    begins_next more new then = subst (λ (l : List Listed). BeginsFrom tails settings rows now 0 l (both_came came more) old new) (sym (take_one listed count one there))
+        (from_then 0 (take count listed) one came more old mid new begins
         (subst (λ (n : ℕ). BeginsOrPasses tails settings (file_at rows n one now) more mid new) (sym at_count) then))
 
-    pub ends_here : (what : BeginError) (new : Beginning T W L) → EndsInOne tails settings (file_at rows count one now) what mid new → EndsInFiles tails settings rows now listed what old new
-    ends_here what new (inl ended) = inl (record { count = count; passed = passed; mid = mid; begins = begins; one = one; is = there; ended = ended })
+    pub ends_here : (what : BeginError) (new : Beginning T W L) → EndsInOne tails settings (file_at rows count one now) came.faulty what mid new → EndsInFiles tails settings rows now listed what old new
+    ends_here what new (inl ended) = inl (record { count = count; came = came; mid = mid; begins = begins; one = one; is = there; ended = ended })
     ends_here what new (inr (memory, why, skipped)) = inr (
       memory,
       record {
         count = suc count;
-        passed = passed ++ passed_by (Skipped why) one;
-        begins = begins_next (passed_by (Skipped why) one) new (record { begun = Skipped why; begins = skipped; more_is = refl });
+        came = both_came came (came_by (Skipped why) one);
+        begins = begins_next (came_by (Skipped why) one) new (record { begun = Skipped why; begins = skipped; more_is = refl });
       },
     )
 
-    pub after_next : (later more : List Passing) (new : Beginning T W L) → later ≡ passed ++ more → BeginsOrPasses tails settings (file_at rows count one now) more mid new →
+    pub after_next : (later more : Came) (new : Beginning T W L) → later ≡ both_came came more → BeginsOrPasses tails settings (file_at rows count one now) more mid new →
         BeginsFrom tails settings rows now 0 (take (count + 1) listed) later old new
     after_next later more new is then = subst (λ (n : ℕ). BeginsFrom tails settings rows now 0 (take n listed) later old new) next
-        (subst (λ (l : List Passing). BeginsFrom tails settings rows now 0 (take (suc count) listed) l old new) (sym is) (begins_next more new then))
+        (subst (λ (c : Came). BeginsFrom tails settings rows now 0 (take (suc count) listed) c old new) (sym is) (begins_next more new then))
       where
         next : suc count ≡ count + 1
         next = omega arith
 
-    pub ends_as : {A : Type 0} (result : Result A BeginError) (what : BeginError) (new : Beginning T W L) → IsErrAnd result (λ other. other ≡ what) → EndsInOne tails settings (file_at rows count one now) what mid new →
+    pub ends_as : {A : Type 0} (result : Result A BeginError) (what : BeginError) (new : Beginning T W L) → IsErrAnd result (λ other. other ≡ what) → EndsInOne tails settings (file_at rows count one now) came.faulty what mid new →
         IfErr result (λ other. EndsInFiles tails settings rows now listed other old new)
     ends_as (Ok value) what new is ended = tt
     ends_as (Err other) what new is ended = subst (λ (m : BeginError). EndsInFiles tails settings rows now listed m old new) (sym is) (ends_here what new ended)
 
   -- ---- what stays over so many of them
 
-  module _ (count : ℕ) (listed : List Listed) (passed : List Passing) (old new : Beginning T W L) (begins : BeginsFrom tails settings rows now 0 (take count listed) passed old new) where
+  module _ (count : ℕ) (listed : List Listed) (came : Came) (old new : Beginning T W L) (begins : BeginsFrom tails settings rows now 0 (take count listed) came old new) where
     pub lanes_still : 0 < length old.crew.lanes.items → 0 < length new.crew.lanes.items
-    lanes_still some = let keeps = from_keeps 0 (take count listed) passed old new begins in let many = keeps.as_many_lanes in omega (arith, some, many)
+    lanes_still some = let keeps = from_keeps 0 (take count listed) came old new begins in let many = keeps.as_many_lanes in omega (arith, some, many)
 
     pub rows_still : new.keeper.store.rows ≡ old.keeper.store.rows
-    rows_still = let keeps = from_keeps 0 (take count listed) passed old new begins in ap (λ (k : Keeping). k.store.rows) keeps.keeper
+    rows_still = let keeps = from_keeps 0 (take count listed) came old new begins in ap (λ (k : Keeping). k.store.rows) keeps.keeper
 
     -- the keys of all of them are known
     pub knows_still : (keys : List (List ℕ)) → AllByRecursion (IsOfKeys keys) listed → KnowsAmong keys old.keeper → KnowsAmong keys new.keeper
-    knows_still keys of knows = from_knows keys 0 (take count listed) passed old new (of_front keys count listed of) begins knows
+    knows_still keys of knows = from_knows keys 0 (take count listed) came old new (of_front keys count listed of) begins knows
 
-  pub rows_kept : (listed : List Listed) (passed : List Passing) (old mid : Beginning T W L) → BeginsFrom tails settings rows now 0 listed passed old mid → mid.keeper.store.rows ≡ old.keeper.store.rows
-  rows_kept listed passed old mid begins = let keeps = from_keeps 0 listed passed old mid begins in ap (λ (k : Keeping). k.store.rows) keeps.keeper
+  pub rows_kept : (listed : List Listed) (came : Came) (old mid : Beginning T W L) → BeginsFrom tails settings rows now 0 listed came old mid → mid.keeper.store.rows ≡ old.keeper.store.rows
+  rows_kept listed came old mid begins = let keeps = from_keeps 0 listed came old mid begins in ap (λ (k : Keeping). k.store.rows) keeps.keeper
 
   -- ---- and the moments
 
@@ -343,19 +388,19 @@ module _ {T W L : Type 0} (tails : TailWords T) (settings : Settings) (rows : Li
     ends_so what (inl ended) = inl ended
     ends_so what (inr (memory, behind)) = inr (memory, inl behind)
 
-    pub all_so : (passed : List Passing) (slice : List Listed) → slice ≡ listed → BeginsFrom tails settings rows now 0 listed passed old mid → TellMoments rows 0 slice mid.keeper new.keeper →
-        new ≡ record mid { keeper = new.keeper } → BeginsAll tails settings rows now listed passed old new
-    all_so passed slice same begins tell others =
+    pub all_so : (came : Came) (slice : List Listed) → slice ≡ listed → BeginsFrom tails settings rows now 0 listed came old mid → TellMoments rows 0 slice mid.keeper new.keeper →
+        new ≡ record mid { keeper = new.keeper } → BeginsAll tails settings rows now listed came old new
+    all_so came slice same begins tell others =
         record { mid = mid; begins = begins; tell = subst (λ (l : List Listed). TellMoments rows 0 l mid.keeper new.keeper) same tell; others = others }
 
-    pub ends_told : {A : Type 0} (result : Result A BeginError) (passed : List Passing) (slice : List Listed) → IsErrAnd result (λ error. error ≡ NoMemory) → slice ≡ listed →
-        BeginsFrom tails settings rows now 0 listed passed old mid → TellSomeMoments rows slice mid.keeper new.keeper → new ≡ record mid { keeper = new.keeper } →
+    pub ends_told : {A : Type 0} (result : Result A BeginError) (came : Came) (slice : List Listed) → IsErrAnd result (λ error. error ≡ NoMemory) → slice ≡ listed →
+        BeginsFrom tails settings rows now 0 listed came old mid → TellSomeMoments rows slice mid.keeper new.keeper → new ≡ record mid { keeper = new.keeper } →
         IfErr result (λ error. BeginsSome tails settings rows now listed error old new)
-    ends_told (Ok value) passed slice memory same begins tell others = tt
-    ends_told (Err what) passed slice memory same begins tell others = inr (
+    ends_told (Ok value) came slice memory same begins tell others = tt
+    ends_told (Err what) came slice memory same begins tell others = inr (
       memory,
       inr (record {
-        passed = passed;
+        came = came;
         mid = mid;
         begins = begins;
         tell = subst (λ (l : List Listed). TellSomeMoments rows l mid.keeper new.keeper) same tell;
@@ -363,12 +408,12 @@ module _ {T W L : Type 0} (tails : TailWords T) (settings : Settings) (rows : Li
       }),
     )
 
-    pub some_told_keep : (passed : List Passing) (slice : List Listed) → slice ≡ listed → BeginsFrom tails settings rows now 0 listed passed old mid → TellSomeMoments rows slice mid.keeper new.keeper →
+    pub some_told_keep : (came : Came) (slice : List Listed) → slice ≡ listed → BeginsFrom tails settings rows now 0 listed came old mid → TellSomeMoments rows slice mid.keeper new.keeper →
         new ≡ record mid { keeper = new.keeper } → KeepsOthers (length listed) old new
-    some_told_keep passed slice same begins tell others = some_keeps listed old new NoMemory (inr (
+    some_told_keep came slice same begins tell others = some_keeps listed old new NoMemory (inr (
       refl,
       inr (record {
-        passed = passed;
+        came = came;
         mid = mid;
         begins = begins;
         tell = subst (λ (l : List Listed). TellSomeMoments rows l mid.keeper new.keeper) same tell;
@@ -378,8 +423,26 @@ module _ {T W L : Type 0} (tails : TailWords T) (settings : Settings) (rows : Li
 
 -- ---- one
 
-module _ {T W L : Type 0} (tails : TailWords T) (settings : Settings) where
-  pub followed_one : (file : ListedFile) (begun : Admission) (old new : Beginning T W L) (passed : List Passing) → BeginsOne tails settings file (Ok begun) old new → begun ≡ Followed →
-      (more : List Passing) × (passed ≡ passed ++ more) × BeginsOrPasses tails settings file more old new
-  followed_one file begun old new passed begins is =
-      ([], sym (append-nil passed), record { begun = Followed; begins = subst (λ (b : Admission). BeginsOne tails settings file (Ok b) old new) is begins; more_is = refl })
+module _ {T W L : Type 0} (tails : TailWords T) (settings : Settings) (file : ListedFile) (before : Came) (old new : Beginning T W L) where
+  abbrev AddsOne : Came → Type 0
+  AddsOne after = (more : Came) × (after ≡ both_came before more) × BeginsOrPasses tails settings file more old new
+
+  pub followed_one : BeginsOne tails settings file (Ok Followed) old new → AddsOne before
+  followed_one begins = (came_by Followed file.listed, sym (came_none before), record { begun = Followed; begins = begins; more_is = refl })
+
+  pub skipped_one : (why : Why) (passed : List Passing) → passed ≡ before.passed ++ passed_by (Skipped why) file.listed → BeginsOne tails settings file (Ok (Skipped why)) old new → AddsOne (came_so passed before.faulty)
+  skipped_one why passed is begins = (
+    came_by (Skipped why) file.listed,
+    ap (λ (l : List Passing). came_so l before.faulty) is ∙ ap (came_so (before.passed ++ passed_by (Skipped why) file.listed)) (sym (or-false before.faulty)),
+    record { begun = Skipped why; begins = begins; more_is = refl },
+  )
+
+  pub failed_one : BeginsOne tails settings file (Ok Failed) old new → AddsOne (came_so before.passed true)
+  failed_one begins = (
+    came_by Failed file.listed,
+    ap (λ (l : List Passing). came_so l true) (sym (append-nil before.passed)) ∙ ap (came_so (before.passed ++ [])) (sym (or-true before.faulty)),
+    record { begun = Failed; begins = begins; more_is = refl },
+  )
+
+  pub ends_one : (what : BeginError) → BeginsOne tails settings file (Err what) old new → (error : BeginError) → error ≡ ended_behind before.faulty what → EndsInOne tails settings file before.faulty error old new
+  ends_one what begins error is = inl (record { what = what; begins = begins; error_is = is })

@@ -7,18 +7,17 @@ use Rattle.file_identity.specs.declared.identity_error.IdentityError.{IdentityEr
 use Rattle.file_identity.specs.declared.identity_error.IdentityError.TheVariants.{NoNative as WithoutNumbers, ReadFault}
 use Rattle.harvester.specs.declared.harvester.Harvester.{Harvester}
 use Rattle.outside.specs.declared.failed.FolderError.{FolderError}
-use Rattle.outside.specs.declared.failed.FolderError.TheVariants.{Failed, NoMemory as WithoutMemory}
+use Rattle.outside.specs.declared.failed.FolderError.TheVariants.{Failed as Failing, NoMemory as WithoutMemory}
 use Rattle.rounds.specs.Words.{TailWords}
 use Rattle.report.specs.declared.passing.Why.{Why}
 use Rattle.report.specs.declared.passing.Why.TheVariants.{Doubled, Gone, Moved, Old, Small}
 use Rattle.run_steps.specs.Beginning.{AsksKey, Beginning, BeginsOne, ClosesAsked, ClosesFile, ClosesUntold, FailsToTell, Follows, FollowsListed, ForSomeReason, GivesUp, HasOpened, HasOtherKey, IsOpenedFor, IsTooSmall, ListedFile, OpensNone, SameLanes, TakesIn, TellsKey}
 use Rattle.run_steps.specs.FolderSeen.{Closes, FolderSeen, OpensBy}
-use Rattle.run_steps.specs.BeginErrors.{IsErrorOfFolder}
 use Rattle.run_steps.specs.Telling.{TellsBegin}
 use Rattle.run_steps.specs.declared.begin_error.BeginError.{BeginError}
 use Rattle.run_steps.specs.declared.begin_error.BeginError.TheVariants.{FolderFault, NoMemory, NoNative}
 use Rattle.run_steps.specs.declared.begin.Admission.{Admission}
-use Rattle.run_steps.specs.declared.begin.Admission.TheVariants.{Followed, Skipped}
+use Rattle.run_steps.specs.declared.begin.Admission.TheVariants.{Failed, Followed, Skipped}
 
 -- ---- by what its tail told of its key
 
@@ -33,19 +32,21 @@ module _ {T : Type 0} (tails : TailWords T) (settings : Settings) (file : Listed
   pub key_is_listed : (key : List ℕ) (same : Bool) → Asks (Ok (Key key)) → (IsTrue same ↔ (file.listed.key ≡ Some key)) → same ≡ true → TellsKey tails settings file fresh asked (Ok None)
   key_is_listed key same asks of is = record { key = key; asks = asks; listed = of.0 is }
 
-  pub key_is_other : (key : List ℕ) (same : Bool) → Asks (Ok (Key key)) → (IsTrue same ↔ (file.listed.key ≡ Some key)) → same ≡ false → TellsKey tails settings file fresh asked (Ok (Some Moved))
+  pub key_is_other : (key : List ℕ) (same : Bool) → Asks (Ok (Key key)) → (IsTrue same ↔ (file.listed.key ≡ Some key)) → same ≡ false → TellsKey tails settings file fresh asked (Ok (Some (Skipped Moved)))
   key_is_other key same asks of is = record { key = key; asks = asks; other = λ listed. let q : true ≡ false = sym (of.1 listed) ∙ is in cc }
 
   -- whatever came of it, the tail was asked
-  pub told_of_key : (result : Result (Option Why) BeginError) → TellsKey tails settings file fresh asked result → (answer : Result Identity IdentityError) × Asks answer
+  pub told_of_key : (result : Result (Option Admission) BeginError) → TellsKey tails settings file fresh asked result → (answer : Result Identity IdentityError) × Asks answer
   told_of_key (Ok None) of = (Ok (Key of.key), of.asks)
-  told_of_key (Ok (Some Moved)) of = (Ok (Key of.key), of.asks)
-  told_of_key (Ok (Some Small)) of = (Ok (TooSmall of.place), of.asks)
-  told_of_key (Ok (Some Doubled)) of = absurd of
-  told_of_key (Ok (Some Gone)) of = absurd of
-  told_of_key (Ok (Some Old)) of = absurd of
+  told_of_key (Ok (Some Followed)) of = absurd of
+  told_of_key (Ok (Some (Skipped Moved))) of = (Ok (Key of.key), of.asks)
+  told_of_key (Ok (Some (Skipped Small))) of = (Ok (TooSmall of.place), of.asks)
+  told_of_key (Ok (Some (Skipped Doubled))) of = absurd of
+  told_of_key (Ok (Some (Skipped Gone))) of = absurd of
+  told_of_key (Ok (Some (Skipped Old))) of = absurd of
+  told_of_key (Ok (Some Failed)) of = (Err ReadFault, of.asks)
   told_of_key (Err NoMemory) of = of
-  told_of_key (Err FolderFault) of = (Err ReadFault, of.asks)
+  told_of_key (Err FolderFault) of = absurd of
   told_of_key (Err (NoNative slot)) of = (Err WithoutNumbers, of.1.asks)
 
 module _ {T W L : Type 0} (tails : TailWords T) (settings : Settings) (file : ListedFile) where
@@ -88,10 +89,11 @@ module _ {T W L : Type 0} (tails : TailWords T) (settings : Settings) (file : Li
       by_result (Ok (Skipped Doubled)) of = absurd of
       by_result (Ok (Skipped Gone)) of = absurd of
       by_result (Ok (Skipped Old)) of = absurd of
+      by_result (Ok Failed) of = inr (closes_so (λ fresh asked. FailsToTell tails settings file fresh asked ReadFault) of)
       by_result (Err NoMemory) (inl up) = inr (inl (record { fresh = tail; tail = up.tail; mid = opened_so old folder; opened = has; keyed = up.keyed; gives_up = up.gives_up }))
       by_result (Err NoMemory) (inr closed) = inr (inr (closes_so ForSomeReason closed))
       by_result (Err (NoNative slot)) of = (of.0, closes_so (λ fresh asked. FailsToTell tails settings file fresh asked WithoutNumbers) of.1)
-      by_result (Err FolderFault) of = inr (closes_so (λ fresh asked. FailsToTell tails settings file fresh asked ReadFault) of)
+      by_result (Err FolderFault) of = absurd of
 
   -- ---- closed again
 
@@ -102,17 +104,19 @@ module _ {T W L : Type 0} (tails : TailWords T) (settings : Settings) (file : Li
     closes_asked : (Why : T → T → Type 0) (answer : Result Identity IdentityError) → AsksKey tails settings file fresh asked answer → Why fresh asked → ClosesAsked tails settings file fresh Why old new
     closes_asked Why answer asks why = record { asked = asked; result = answer; asks = asks; closed = closed; why = why }
 
-    pub key_skips : (why : Why) → TellsKey tails settings file fresh asked (Ok (Some why)) → FollowsListed tails settings file fresh (Ok (Skipped why)) old new
-    key_skips Moved of = closes_asked (HasOtherKey tails settings file) (Ok (Key of.key)) of.asks of
-    key_skips Small of = closes_asked (IsTooSmall tails settings file) (Ok (TooSmall of.place)) of.asks of
-    key_skips Doubled of = absurd of
-    key_skips Gone of = absurd of
-    key_skips Old of = absurd of
+    pub key_skips : (other : Admission) → TellsKey tails settings file fresh asked (Ok (Some other)) → FollowsListed tails settings file fresh (Ok other) old new
+    key_skips Followed of = absurd of
+    key_skips (Skipped Moved) of = closes_asked (HasOtherKey tails settings file) (Ok (Key of.key)) of.asks of
+    key_skips (Skipped Small) of = closes_asked (IsTooSmall tails settings file) (Ok (TooSmall of.place)) of.asks of
+    key_skips (Skipped Doubled) of = absurd of
+    key_skips (Skipped Gone) of = absurd of
+    key_skips (Skipped Old) of = absurd of
+    key_skips Failed of = closes_asked (λ fresh asked. FailsToTell tails settings file fresh asked ReadFault) (Err ReadFault) of.asks of
 
     pub key_unknown : (error : BeginError) → TellsKey tails settings file fresh asked (Err error) → FollowsListed tails settings file fresh (Err error) old new
     key_unknown NoMemory of = inr (closes_asked ForSomeReason of.0 of.1 tt)
     key_unknown (NoNative slot) of = (of.0, closes_asked (λ fresh asked. FailsToTell tails settings file fresh asked WithoutNumbers) (Err WithoutNumbers) of.1.asks of.1)
-    key_unknown FolderFault of = closes_asked (λ fresh asked. FailsToTell tails settings file fresh asked ReadFault) (Err ReadFault) of.asks of
+    key_unknown FolderFault of = absurd of
 
   -- ---- followed, or given up
 
@@ -122,6 +126,8 @@ module _ {T W L : Type 0} (tails : TailWords T) (settings : Settings) (file : Li
   pub asked_gives_up : (fresh tail : T) (old new : Beginning T W L) → TellsKey tails settings file fresh tail (Ok None) → GivesUp tails file tail old new → FollowsListed tails settings file fresh (Err NoMemory) old new
   asked_gives_up fresh tail old new keyed up = inl (record { tail = tail; keyed = keyed; gives_up = up })
 
-  pub none_opened : (old new : Beginning T W L) (failed : FolderError) (error : BeginError) → IsErrorOfFolder failed error → OpensNone tails file (Err failed) old new → BeginsOne tails settings file (Err error) old new
-  none_opened old new Failed error is opens = subst (λ (e : BeginError). BeginsOne tails settings file (Err e) old new) (sym is) (inl opens)
-  none_opened old new WithoutMemory error is opens = subst (λ (e : BeginError). BeginsOne tails settings file (Err e) old new) (sym is) (inl opens)
+  pub failed_opening : (old new : Beginning T W L) → OpensNone tails file (Err Failing) old new → BeginsOne tails settings file (Ok Failed) old new
+  failed_opening old new opens = inl opens
+
+  pub none_opened : (old new : Beginning T W L) → OpensNone tails file (Err WithoutMemory) old new → BeginsOne tails settings file (Err NoMemory) old new
+  none_opened old new opens = inl opens

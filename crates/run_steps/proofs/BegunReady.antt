@@ -1,5 +1,5 @@
 -- Once files were begun, rounds may follow as before, and the areas are at rest still.
-use Rattle.std.proofs.Common.{◌≡◌, ◌⊎◌, inl, inr, ℕ, suc, List, [], ◌∷◌, ◌++◌, take, Vec, Global, Result, Ok, Err, IfOk, IfErr, sym, ap, subst, ◌∙◌, append_assoc}
+use Rattle.std.proofs.Common.{◌≡◌, ◌⊎◌, inl, inr, ℕ, suc, List, [], ◌∷◌, ◌++◌, take, Result, Ok, Err, IfOk, IfErr, sym, ap, subst, ◌∙◌, append_assoc}
 use Rattle.std.specs.Borrow.{MutBor}
 use Rattle.atomic_table.specs.Seated.{TableId}
 use Rattle.event_tree.specs.declared.settings.Settings.{Settings}
@@ -7,7 +7,6 @@ use Rattle.keeper.specs.Keeping.{Keeping}
 use Rattle.prospect.specs.declared.listed.Listed.{Listed}
 use Rattle.registry_store.specs.Settled.{AreSettled}
 use Rattle.registry_store.specs.Standing.{chosen_by}
-use Rattle.report.specs.declared.passing.Passing.{Passing}
 use Rattle.rounds.specs.Crewing.{crewing}
 use Rattle.rounds.specs.Rounds.{IsReady}
 use Rattle.rounds.specs.Words.{DiskWords, TailWords}
@@ -17,10 +16,11 @@ use Rattle.wire_base.specs.declared.row.Row.{Row}
 use Rattle.run_steps.specs.BeginFor.{start_among}
 use Rattle.run_steps.specs.Areas.{IsAtRest}
 use Rattle.run_steps.specs.Beginning.{Beginning, BeginsOne}
-use Rattle.run_steps.specs.BeginsAll.{BeginsAll, BeginsFrom, BeginsSome, file_at}
+use Rattle.run_steps.specs.BeginsAll.{BeginsAll, BeginsFrom, BeginsSome, Came, came_of, file_at}
 use Rattle.run_steps.specs.Telling.{TellsBegin, TellsNotes}
 use Rattle.run_steps.specs.Worked.{lent}
 use Rattle.run_steps.specs.declared.begin_error.BeginError.{BeginError}
+use Rattle.run_steps.specs.declared.beginning.BegunFiles.{BegunFiles}
 use Rattle.run_steps.proofs.Able.{able_on}
 use Rattle.run_steps.proofs.Keeps.{begin_keeps, keeper_others}
 use Rattle.run_steps.proofs.Notes.{moments_are_told}
@@ -40,22 +40,22 @@ module _ {T W L : Type 0} (tails : TailWords T) (settings : Settings) (rows : Li
   -- what each step keeps, all of them keep
   module _ (P : Beginning T W L → Type 0) (one : (slot : ℕ) (listed : Listed) (result : Result Admission BeginError) (old new : Beginning T W L) → BeginsOne tails settings (file_at rows slot listed now) result old new → P old → P new)
       (told : (mid new : Beginning T W L) (more : List Note) → TellsNotes more mid.keeper new.keeper → new ≡ record mid { keeper = new.keeper } → P mid → P new) where
-    through_files : (slot : ℕ) (listed : List Listed) (passed : List Passing) (old new : Beginning T W L) → BeginsFrom tails settings rows now slot listed passed old new → P old → P new
-    through_files slot [] passed old new is holds = subst P (sym is.1) holds
-    through_files slot (first ∷ listed) passed old new is holds =
+    through_files : (slot : ℕ) (listed : List Listed) (came : Came) (old new : Beginning T W L) → BeginsFrom tails settings rows now slot listed came old new → P old → P new
+    through_files slot [] came old new is holds = subst P (sym is.1) holds
+    through_files slot (first ∷ listed) came old new is holds =
         through_files (suc slot) listed is.later is.mid new is.rest (one slot first (Ok is.begun) old is.mid is.first holds)
 
-    through : (listed : List Listed) (result : Result (Vec Passing Global) BeginError) (old new : Beginning T W L) → IfOk result (λ passed. BeginsAll tails settings rows now listed passed.items old new) →
+    through : (listed : List Listed) (result : Result BegunFiles BeginError) (old new : Beginning T W L) → IfOk result (λ files. BeginsAll tails settings rows now listed (came_of files) old new) →
         IfErr result (λ what. BeginsSome tails settings rows now listed what old new) → P old → P new
-    through listed (Ok passed) old new is ended holds =
+    through listed (Ok files) old new is ended holds =
         let more = moments_are_told rows 0 listed is.mid.keeper new.keeper is.tell in
-        told is.mid new more.more more.tells is.others (through_files 0 listed passed.items old is.mid is.begins holds)
+        told is.mid new more.more more.tells is.others (through_files 0 listed (came_of files) old is.mid is.begins holds)
     through listed (Err what) old new begun (inl is) holds =
-        one is.count is.one (Err what) is.mid new is.ended (through_files 0 (take is.count listed) is.passed old is.mid is.begins holds)
-    through listed (Err what) old new begun (inr (memory, inl is)) holds = through_files 0 (take is.count listed) is.passed old new is.begins holds
+        one is.count is.one (Err is.ended.what) is.mid new is.ended.begins (through_files 0 (take is.count listed) is.came old is.mid is.begins holds)
+    through listed (Err what) old new begun (inr (memory, inl is)) holds = through_files 0 (take is.count listed) is.came old new is.begins holds
     through listed (Err what) old new begun (inr (memory, inr is)) holds =
         let more = moments_are_told rows 0 (take is.tell.count listed) is.mid.keeper new.keeper is.tell.tell in
-        told is.mid new more.more more.tells is.others (through_files 0 listed is.passed old is.mid is.begins holds)
+        told is.mid new more.more more.tells is.others (through_files 0 listed is.came old is.mid is.begins holds)
 
   -- ---- rounds may follow
 
@@ -84,7 +84,7 @@ module _ {T W L : Type 0} (tails : TailWords T) (settings : Settings) (rows : Li
       is_open = ap (λ (k : Keeping). k.store.closed) tells.others_stay ∙ ready.is_open;
     })
 
-    pub ready_begun : (listed : List Listed) (result : Result (Vec Passing Global) BeginError) (old new : Beginning T W L) → IfOk result (λ passed. BeginsAll tails settings rows now listed passed.items old new) →
+    pub ready_begun : (listed : List Listed) (result : Result BegunFiles BeginError) (old new : Beginning T W L) → IfOk result (λ files. BeginsAll tails settings rows now listed (came_of files) old new) →
         IfErr result (λ what. BeginsSome tails settings rows now listed what old new) → MayRun old → MayRun new
     ready_begun listed result old new begun ended ready = through MayRun one_runs told_runs listed result old new begun ended ready
 
@@ -104,6 +104,6 @@ module _ {T W L : Type 0} (tails : TailWords T) (settings : Settings) (rows : Li
     told_rests : (mid new : Beginning T W L) (more : List Note) → TellsNotes more mid.keeper new.keeper → new ≡ record mid { keeper = new.keeper } → Rests mid → Rests new
     told_rests mid new more tells others rests = rests_on disks a b more mid.keeper new.keeper tells rests
 
-    pub rest_begun : (listed : List Listed) (result : Result (Vec Passing Global) BeginError) (old new : Beginning T W L) → IfOk result (λ passed. BeginsAll tails settings rows now listed passed.items old new) →
+    pub rest_begun : (listed : List Listed) (result : Result BegunFiles BeginError) (old new : Beginning T W L) → IfOk result (λ files. BeginsAll tails settings rows now listed (came_of files) old new) →
         IfErr result (λ what. BeginsSome tails settings rows now listed what old new) → Rests old → Rests new
     rest_begun listed result old new begun ended rests = through Rests one_rests told_rests listed result old new begun ended rests

@@ -15,7 +15,7 @@ use Rattle.run_steps.specs.Telling.{TellsBegin, begin_note}
 use Rattle.run_steps.specs.declared.begin_error.BeginError.{BeginError}
 use Rattle.run_steps.specs.declared.begin_error.BeginError.TheVariants.{FolderFault, NoMemory, NoNative}
 use Rattle.run_steps.specs.declared.begin.Admission.{Admission}
-use Rattle.run_steps.specs.declared.begin.Admission.TheVariants.{Followed, Skipped}
+use Rattle.run_steps.specs.declared.begin.Admission.TheVariants.{Failed, Followed, Skipped}
 
 -- the lanes have the same harvesters, or one of them has one more
 pub record TakesOne {T : Type 0} (tails : TailWords T) (settings : Settings) (file : ListedFile) (old new : List (Laning T)) : Type 0 where
@@ -85,8 +85,9 @@ module _ {T W L : Type 0} (tails : TailWords T) (settings : Settings) (file : Li
   begin_keeps (Ok (Skipped Doubled)) old new begins = absurd begins
   begin_keeps (Ok (Skipped Old)) old new begins = absurd begins
   begin_keeps (Ok (Skipped Small)) old new begins = closes_keeps _ old new begins
-  begin_keeps (Err FolderFault) old new (inr begins) = closes_keeps _ old new begins
-  begin_keeps (Err FolderFault) old new (inl begins) = none_opened old new begins.crew begins.keeper begins.opens.faults_never_fall
+  begin_keeps (Ok Failed) old new (inr begins) = closes_keeps _ old new begins
+  begin_keeps (Ok Failed) old new (inl begins) = none_opened old new begins.crew begins.keeper begins.opens.faults_never_fall
+  begin_keeps (Err FolderFault) old new begins = absurd begins
   begin_keeps (Err NoMemory) old new (inl begins) = none_opened old new begins.crew begins.keeper begins.opens.faults_never_fall
   begin_keeps (Err NoMemory) old new (inr (inl begins)) = behind_opening begins.fresh old begins.mid new begins.opened (gives_up_keeps begins.tail begins.mid new begins.gives_up)
   begin_keeps (Err NoMemory) old new (inr (inr begins)) = closes_keeps _ old new begins

@@ -1,5 +1,6 @@
 -- A round behind which files that failed are closed: the run goes on without them, or has met a fault.
-use Rattle.std.proofs.Common.{◌≡◌, ◌≢◌, ◌⊎◌, inl, inr, ⊎_elim, ℕ, ◌||◌, ◌≤◌, Bool, true, false, IfErr, IfOk, IfSome, Option, None, Some, Vec, refl, sym, ap, subst}
+use Rattle.std.proofs.Common.{◌≡◌, ◌≢◌, ◌⊎◌, inl, inr, ⊎_elim, ℕ, ◌||◌, ◌≤◌, Bool, true, false, IfErr, IfOk, IfSome, Option, None, Some, Vec, refl, sym, ap, subst, ◌∙◌}
+use Rattle.std.proofs.lemmas.Bool.{or_parts}
 use Rattle.std.specs.Borrow.{MutBor}
 use Rattle.std.specs.declared.alloc.Global.{Global}
 use Rattle.lanes.specs.declared.lane.Lane.{Lane}
@@ -11,13 +12,14 @@ use Rattle.rounds.specs.declared.crew.Crew.{Crew}
 use Rattle.rounds.specs.declared.storing.Storing.{Storing}
 use Rattle.run_steps.specs.ClosesTail.{ClosesFailed, HasFailedFile, Readers, ReadersGo}
 use Rattle.run_steps.specs.Goes.{Goes, StepWords, Stop, stop_at}
+use Rattle.run_steps.specs.Met.{IsTelling}
 use Rattle.run_steps.specs.MetBy.{HasFaults, HasMetFault, IsEndedBy, IsEndedRound, IsMetBy, Since, SomeHarvester, phase_after, phase_met, phase_reading}
 use Rattle.run_steps.specs.MetIn.{met_behind, read_by}
 use Rattle.run_steps.specs.RunState.{Leaving, Phase, Reading}
 use Rattle.run_steps.specs.declared.context.Context.{Context}
 use Rattle.run_steps.specs.declared.context.System.{System}
 use Rattle.run_steps.specs.declared.met.Met.{Met}
-use Rattle.run_steps.specs.declared.met.Met.TheVariants.{FolderFault, Stopped}
+use Rattle.run_steps.specs.declared.met.Met.TheVariants.{DiskFault, Done, Epochs, FolderFault, NoMemory, NoNative, Stopped, Unreachable}
 use Rattle.run_steps.proofs.GoesOn.{goes_as, goes_by_asking, goes_by_two, goes_then_closes, goes_then_stays}
 use Rattle.run_steps.proofs.MetBy.{ended_behind, ended_round, goes_on_behind, leaves_by_fault}
 use Rattle.run_steps.proofs.ReadersGo.{readers_go_by_some}
@@ -25,6 +27,30 @@ use Rattle.run_steps.proofs.ReadersGo.{readers_go_by_some}
 pub if_some : {A : Type 0} (P : A → Type 0) (o : Option A) → IfSome o P → (x : A) → o ≡ Some x → P x
 if_some P None some x is = absurd (let no : None ≡ Some x = is in cc)
 if_some P (Some y) some x is = let same : y ≡ x = cc in subst P same some
+
+-- a run in which some file met a fault tells no report
+untold_behind : (met : Met) → ¬ (IsTelling (met_behind true met))
+untold_behind Done telling = telling
+untold_behind Stopped telling = telling
+untold_behind NoMemory telling = telling
+untold_behind DiskFault telling = telling
+untold_behind FolderFault telling = telling
+untold_behind (Unreachable worker) telling = telling
+untold_behind (Epochs slot) telling = telling
+untold_behind (NoNative slot) telling = telling
+
+pub told_behind : (faulty : Bool) (met : Met) → IsTelling (met_behind faulty met) → faulty ≡ false
+told_behind false met telling = refl
+told_behind true met telling = absurd (untold_behind met telling)
+
+pub read_untold : (faulty failed : Bool) (met : Option Met) → IfErr (read_by (faulty || failed) met) (λ by. IsTelling by → faulty ≡ false)
+read_untold faulty failed None = tt
+read_untold faulty failed (Some met) telling = (or_parts faulty failed (told_behind (faulty || failed) met telling)).0
+
+-- none did before, if none did by now
+pub none_before : (before now : Bool) → (before ≡ true → now ≡ true) → now ≡ false → before ≡ false
+none_before false now stays none = refl
+none_before true now stays none = let q : true ≡ false = sym (stays refl) ∙ none in cc
 
 module _ {T W L D F K B : Type 0} (words : StepWords T W L D F K B) (context : Context) (faulty failed : Bool) (old crew : Crew T W L) (before storing : Storing D) (first system : System F K B)
     (folder : MutBor F) (lanes : Vec (Lane T) Global) (same : folder.ghost_name ≡ system.folder.ghost_name) where

@@ -1,9 +1,8 @@
 -- Why a run met what ended it: its beginning did, or what came behind it.
-use Rattle.std.proofs.Common.{◌≡◌, ◌⊎◌, inl, inr, ℕ, ◌≤◌, ◌<◌, List, [], ◌∷◌, length, Result, Ok, Err, IfErr, Vec, Global, sym, ap, subst, arith}
+use Rattle.std.proofs.Common.{◌≡◌, ◌⊎◌, inl, inr, ℕ, ◌≤◌, ◌<◌, List, [], ◌∷◌, length, true, Result, Ok, Err, IfErr, IfOk, sym, ap, subst, arith}
 use Rattle.std.specs.List.{AllByRecursion}
 use Rattle.lanes.specs.Laning.{Laning}
 use Rattle.outside.specs.Counts.{Rose}
-use Rattle.report.specs.declared.passing.Passing.{Passing}
 use Rattle.rounds.specs.Crewed.{lanings}
 use Rattle.rounds.specs.Making.{IsBegunLane}
 use Rattle.rounds.specs.declared.crew.Crew.{Crew}
@@ -13,6 +12,7 @@ use Rattle.run_steps.specs.BeginsAll.{AreSlotsBelow, EndsBeginning, IsSlotBelow}
 use Rattle.run_steps.specs.Worked.{IsBegunWith, IsMetByRun, IsWorkedBy, Tolls}
 use Rattle.run_steps.specs.declared.begin_error.BeginError.{BeginError}
 use Rattle.run_steps.specs.declared.begin_error.BeginError.TheVariants as begin
+use Rattle.run_steps.specs.declared.beginning.BegunFiles.{BegunFiles}
 use Rattle.run_steps.specs.declared.met.Met.{Met}
 use Rattle.run_steps.specs.declared.met.Met.TheVariants.{Done, Stopped, NoMemory, DiskFault, FolderFault, Unreachable, Epochs, NoNative}
 use Rattle.run_steps.proofs.OfInputs.{slot_below}
@@ -50,8 +50,9 @@ module _ {T W L : Type 0} (workers files : ℕ) (crew : Crew T W L) (a_faults b_
     by_working (Epochs slot) by = slot_below slot files (lanings crew.lanes.items) below by
     by_working (NoNative slot) by = absurd by
 
-    pub met_by_run : (begun : Result (Vec Passing Global) BeginError) (met : Met) → IfErr begun (λ error. EndsBeginning files error old new) → new.folder.faults ≤ after.folder_faults →
+    pub met_by_run : (begun : Result BegunFiles BeginError) (met : Met) → IfErr begun (λ error. EndsBeginning files error old new) →
+        IfOk begun (λ all. all.faulty ≡ true → Rose old.folder.faults new.folder.faults) → new.folder.faults ≤ after.folder_faults →
         IsBegunWith begun met ⊎ IsWorkedBy crew begun_by after met → IsMetByRun workers files set_out after met
-    met_by_run (Ok passed) met ends more (inl is) = absurd is
-    met_by_run (Err error) met ends more (inl is) = subst (IsMetByRun workers files set_out after) (sym is) (by_beginning error ends more)
-    met_by_run begun met ends more (inr by) = by_working met by
+    met_by_run (Ok all) met ends rose more (inl is) = subst (IsMetByRun workers files set_out after) (sym is.1) (rose_still old.folder.faults new.folder.faults after.folder_faults (rose is.0) more)
+    met_by_run (Err error) met ends rose more (inl is) = subst (IsMetByRun workers files set_out after) (sym is) (by_beginning error ends more)
+    met_by_run begun met ends rose more (inr by) = by_working met by

@@ -1,5 +1,6 @@
 -- Beginning all listed files begins or skips each for its reason.
-use Rattle.std.proofs.Common.{◌≡◌, ◌⊎◌, inl, inr, ⊎_elim, ℕ, zero, suc, ◌<◌, ◌≤◌, drop, List, [], ◌∷◌, ◌++◌, Contains, length, append_assoc, append-nil, Option, Some, None, IfSome, Result, Ok, refl, sym, ap, subst, ◌∙◌, arith}
+use Rattle.std.proofs.Common.{◌≡◌, ◌⊎◌, inl, inr, ⊎_elim, ℕ, zero, suc, ◌<◌, ◌≤◌, true, false, drop, List, [], ◌∷◌, ◌++◌, Contains, length, append_assoc, append-nil, Option, Some, None, IfSome, Result, Ok, refl, sym, ap, subst, ◌∙◌, arith}
+use Rattle.std.proofs.lemmas.Bool.{or_parts}
 use Rattle.std.proofs.lemmas.List.Elements.{Contains-append_cases, Contains-append_left, Contains-append_right}
 use Rattle.std.proofs.lemmas.List.{length-append}
 use Rattle.std.specs.Prelude.{option_map, slice_get}
@@ -33,7 +34,7 @@ use Rattle.wire_base.specs.declared.numbers.Slot.{Slot}
 use Rattle.wire_base.specs.declared.row.Row.{Row}
 use Rattle.run_steps.specs.BeginFor.{begin_for, start_among}
 use Rattle.run_steps.specs.Beginning.{AsksKey, Beginning, BeginsOne, ClosesFile, HasOtherKey, IsTooSmall, ListedFile}
-use Rattle.run_steps.specs.BeginsAll.{BeginsFrom, file_at, passed_by}
+use Rattle.run_steps.specs.BeginsAll.{BeginsFrom, Came, file_at, has_failed, passed_by}
 use Rattle.run_steps.specs.Begun.{noted_begin}
 use Rattle.run_steps.specs.Releasing.{closing_of, with_events}
 use Rattle.run_steps.specs.Served.{AreServedFrom, HasBegin, WasSkippedBy, folder_trace}
@@ -43,7 +44,7 @@ use Rattle.run_steps.proofs.SkippedFor.{skipped_still}
 use Rattle.accounts.proofs.Orderly.{member_is}
 use Rattle.told_scans.proofs.AskedEvents.{closes_here}
 use Rattle.run_steps.specs.declared.begin.Admission.{Admission}
-use Rattle.run_steps.specs.declared.begin.Admission.TheVariants.{Followed, Skipped}
+use Rattle.run_steps.specs.declared.begin.Admission.TheVariants.{Failed, Followed, Skipped}
 
 -- ---- notes
 
@@ -93,6 +94,7 @@ record IsSkippedIn (inputs : List InputRule) (began : ℕ) (one : Listed) (befor
 abbrev ComesTo : List InputRule → ℕ → ℕ → Listed → FolderHistory → List Event → Admission → List Note → Type 0
 ComesTo inputs began slot one before events Followed more = IsBegunBy slot more
 ComesTo inputs began slot one before events (Skipped why) more = IsSkippedIn inputs began one before events why more
+ComesTo inputs began slot one before events Failed more = ⊥
 
 -- the folder tells these things more, and the keeper maybe a note: so the file is begun or skipped
 record ServesOne {T W L : Type 0} (inputs : List InputRule) (began slot : ℕ) (one : Listed) (begun : Admission) (before : FolderHistory) (old new : Beginning T W L) : Type 0 where
@@ -203,9 +205,9 @@ module _ {T W L : Type 0} (tails : TailWords T) (settings : Settings) (rows : Li
     }
 
   serves_one : (began slot : ℕ) (one : Listed) (begun : Admission) (before : FolderHistory) (old new : Beginning T W L) → old.folder.told ≡ Some before → began ≤ length before.events →
-      BeginsOne tails settings (file_at rows slot one now) (Ok begun) old new → ServesOne settings.inputs began slot one begun before old new
+      has_failed begun ≡ false → BeginsOne tails settings (file_at rows slot one now) (Ok begun) old new → ServesOne settings.inputs began slot one begun before old new
   unfolding gave_so
-  serves_one began slot one Followed before old new is within begins =
+  serves_one began slot one Followed before old new is within none begins =
       let opens = opened_file tails one.path begins.fresh before old.folder.told begins.mid.folder.told old.folder.states old.folder.present is begins.opened.opens.told in
       let tells = begins.follows.taken.tells in
       record {
@@ -216,7 +218,7 @@ module _ {T W L : Type 0} (tails : TailWords T) (settings : Settings) (rows : Li
         noted = tells.tells.told ∙ ap (λ (k : Keeping). k.tracked.notes ++ noted_begin (begin_for (record { 0 = slot }) one tells.key (start_among rows one)) ∷ []) begins.opened.keeper;
         came = record { begin = begin_for (record { 0 = slot }) one tells.key (start_among rows one); slot_is = refl; are = refl };
       }
-  serves_one began slot one (Skipped Gone) before old new is within opens = record {
+  serves_one began slot one (Skipped Gone) before old new is within none opens = record {
     events = NotThere one.path ∷ [];
     some = omega arith;
     told = none_event tails one.path before old.folder.told new.folder.told old.folder.states old.folder.present is opens.opens.told;
@@ -224,7 +226,7 @@ module _ {T W L : Type 0} (tails : TailWords T) (settings : Settings) (rows : Li
     noted = ap (λ (k : Keeping). k.tracked.notes) opens.keeper ∙ sym (append-nil old.keeper.tracked.notes);
     came = record { are = refl; reason = record { in_this_run = within; not_there = got_at_end before.events (NotThere one.path) [] (length before.events) refl } };
   }
-  serves_one began slot one (Skipped Moved) before old new is within closed =
+  serves_one began slot one (Skipped Moved) before old new is within none closed =
       let file = file_at rows slot one now in
       let key = closed.closed.why.key in
       let asks = closed.closed.why.asks in
@@ -235,7 +237,7 @@ module _ {T W L : Type 0} (tails : TailWords T) (settings : Settings) (rows : Li
         opened = gave_so file (HasOtherKey tails settings file) before old new closed (Ok (Key key)) asks began within its (Some key) its.gave.0 its.gave.1;
         other_key = closed.closed.why.other;
       })
-  serves_one began slot one (Skipped Small) before old new is within closed =
+  serves_one began slot one (Skipped Small) before old new is within none closed =
       let file = file_at rows slot one now in
       let place = closed.closed.why.place in
       let asks = closed.closed.why.asks in
@@ -245,8 +247,9 @@ module _ {T W L : Type 0} (tails : TailWords T) (settings : Settings) (rows : Li
         opened = gave_so file (IsTooSmall tails settings file) before old new closed (Ok (TooSmall place)) asks began within its None its.gave.0 its.gave.1;
         by_bytes = within_bytes asks.rule.file_identity place asks.answer;
       })
-  serves_one began slot one (Skipped Doubled) before old new is within begins = absurd begins
-  serves_one began slot one (Skipped Old) before old new is within begins = absurd begins
+  serves_one began slot one Failed before old new is within none begins = absurd (let q : true ≡ false = none in cc)
+  serves_one began slot one (Skipped Doubled) before old new is within none begins = absurd begins
+  serves_one began slot one (Skipped Old) before old new is within none begins = absurd begins
 
 -- ---- one file before others
 
@@ -338,31 +341,36 @@ module _ {T W L : Type 0} (tails : TailWords T) (settings : Settings) (rows : Li
         only : (other : ℕ) → HasBegin first.more other → other ≡ slot
         only other has = absurd (nothing_begun other (subst (λ (l : List Note). HasBegin l other) first.came.are has))
 
-  pub serves_from : (slot place : ℕ) (listed : List Listed) (passed : List Passing) (before : FolderHistory) (old new : Beginning T W L) → old.folder.told ≡ Some before → began ≤ length before.events →
-      place ≤ length before.events → BeginsFrom tails settings rows now slot listed passed old new → ServesFrom slot place listed passed before old new
-  serves_from slot place [] passed before old new is within behind begins = record {
+  pub serves_from : (slot place : ℕ) (listed : List Listed) (came : Came) (before : FolderHistory) (old new : Beginning T W L) → old.folder.told ≡ Some before → began ≤ length before.events →
+      place ≤ length before.events → came.faulty ≡ false → BeginsFrom tails settings rows now slot listed came old new → ServesFrom slot place listed came.passed before old new
+  serves_from slot place [] came before old new is within behind none begins = record {
     events = [];
     told = ap (λ (s : Beginning T W L). s.folder.told) begins.1 ∙ is ∙ ap (λ (l : List Event). Some (record before { events = l })) (sym (append-nil before.events));
     more = [];
     noted = ap (λ (s : Beginning T W L). s.keeper.tracked.notes) begins.1 ∙ sym (append-nil old.keeper.tracked.notes);
     since = λ other has. absurd (nothing_begun other has);
-    each = begins.0;
+    each = ap (λ (c : Came). c.passed) begins.0;
   }
-  serves_from slot place (one ∷ listed) passed before old new is within behind begins =
-      by_begun begins.begun begins.first begins.passed_are (λ next more. serves_from (suc slot) next listed begins.later (with_more before more) begins.mid new)
+  serves_from slot place (one ∷ listed) came before old new is within behind none begins =
+      by_begun begins.begun begins.first neither.0 (ap (λ (c : Came). c.passed) begins.came_is)
+      (λ next more told since later. serves_from (suc slot) next listed begins.later (with_more before more) begins.mid new told since later neither.1 begins.rest)
     where
-      by_begun : (begun : Admission) → BeginsOne tails settings (file_at rows slot one now) (Ok begun) old begins.mid → passed ≡ passed_by begun one ++ begins.later →
+      neither : (has_failed begins.begun ≡ false) × (begins.later.faulty ≡ false)
+      neither = or_parts (has_failed begins.begun) begins.later.faulty (sym (ap (λ (c : Came). c.faulty) begins.came_is) ∙ none)
+
+      by_begun : (begun : Admission) → BeginsOne tails settings (file_at rows slot one now) (Ok begun) old begins.mid → has_failed begun ≡ false → came.passed ≡ passed_by begun one ++ begins.later.passed →
           ((next : ℕ) (more : List Event) → begins.mid.folder.told ≡ Some (with_more before more) → began ≤ length (before.events ++ more) → next ≤ length (before.events ++ more) →
-          BeginsFrom tails settings rows now (suc slot) listed begins.later begins.mid new → ServesFrom (suc slot) next listed begins.later (with_more before more) begins.mid new) →
-          ServesFrom slot place (one ∷ listed) passed before old new
-      by_begun Followed begun are others =
-          let first = serves_one tails settings rows now began slot one Followed before old begins.mid is within begun in
+          ServesFrom (suc slot) next listed begins.later.passed (with_more before more) begins.mid new) →
+          ServesFrom slot place (one ∷ listed) came.passed before old new
+      by_begun Followed begun served are others =
+          let first = serves_one tails settings rows now began slot one Followed before old begins.mid is within served begun in
           let long = length-append before.events first.events in
-          join_begun slot place one listed passed begins.later before old begins.mid new first
-          (others place first.events first.told (omega (arith, within, long)) (omega (arith, behind, long)) begins.rest) are
-      by_begun (Skipped why) skipped are others =
-          let first = serves_one tails settings rows now began slot one (Skipped why) before old begins.mid is within skipped in
+          join_begun slot place one listed came.passed begins.later.passed before old begins.mid new first
+          (others place first.events first.told (omega (arith, within, long)) (omega (arith, behind, long))) are
+      by_begun Failed begun served are others = absurd (let q : true ≡ false = served in cc)
+      by_begun (Skipped why) skipped served are others =
+          let first = serves_one tails settings rows now began slot one (Skipped why) before old begins.mid is within served skipped in
           let long = length-append before.events first.events in
           let some = first.some in
-          join_skipped slot place one listed passed begins.later before old begins.mid new why behind first
-          (others (suc (length before.events)) first.events first.told (omega (arith, within, long)) (omega (arith, some, long)) begins.rest) are
+          join_skipped slot place one listed came.passed begins.later.passed before old begins.mid new why behind first
+          (others (suc (length before.events)) first.events first.told (omega (arith, within, long)) (omega (arith, some, long))) are

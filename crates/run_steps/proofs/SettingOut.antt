@@ -1,5 +1,5 @@
 -- A crew as it is made may make rounds, and what stands of a run stands as it sets out and once its files are begun.
-use Rattle.std.proofs.Common.{◌≡◌, ℕ, Bool, ◌≤◌, ◌+◌, All, List, [], ◌∷◌, ◌++◌, length, map, take, drop, Option, None, IfSome, IsSome, Result, Ok, Err, IfOk, IfErr, Vec, Global, refl, sym, ap, subst, ◌∙◌, arith}
+use Rattle.std.proofs.Common.{◌≡◌, ℕ, Bool, ◌≤◌, ◌+◌, All, List, [], ◌∷◌, ◌++◌, length, map, take, drop, Option, None, IfSome, IsSome, Result, Ok, Err, IfOk, IfErr, refl, sym, ap, subst, ◌∙◌, arith}
 use Rattle.std.specs.List.{AllByRecursion}
 use Rattle.std.proofs.Math.Seq.{take-append_seam}
 use Rattle.std.proofs.lemmas.List.{length-map, length-append, take-append-drop}
@@ -35,7 +35,7 @@ use Rattle.run_steps.specs.AccountedOver.{AccountedOver}
 use Rattle.run_steps.specs.Areas.{BeganAtRest, IsAtRest}
 use Rattle.run_steps.specs.Began.{Began}
 use Rattle.run_steps.specs.Beginning.{Beginning}
-use Rattle.run_steps.specs.BeginsAll.{BeginsAll, BeginsSome}
+use Rattle.run_steps.specs.BeginsAll.{BeginsAll, BeginsSome, came_of}
 use Rattle.run_steps.specs.BegunCrew.{IsBegunCrew}
 use Rattle.run_steps.specs.HiddenRows.{HidesBegun, TellsHidden}
 use Rattle.run_steps.specs.Met.{IsTelling}
@@ -48,8 +48,9 @@ use Rattle.run_steps.specs.RunState.{Reading}
 use Rattle.run_steps.specs.Scanned.{HasScanned}
 use Rattle.run_steps.specs.Stands.{Further, Stands}
 use Rattle.run_steps.specs.WireOn.{OutcomesGoOn}
-use Rattle.run_steps.specs.Worked.{HasPassed, phase_begun}
+use Rattle.run_steps.specs.Worked.{AreAllBegun, HasPassed, phase_begun}
 use Rattle.run_steps.specs.declared.begin_error.BeginError.{BeginError}
+use Rattle.run_steps.specs.declared.beginning.BegunFiles.{BegunFiles}
 use Rattle.run_steps.specs.declared.met.Met.{Met}
 use Rattle.run_steps.proofs.AllBegun.{all_are_seen, stands_begun}
 use Rattle.run_steps.proofs.BeginningOne.{at_phase}
@@ -158,10 +159,10 @@ module _ {T W L D : Type 0} (words : Words T W L D) (reads : (disk : D) → IfSo
         (sym first.is) (stands_first words start old.crew first.store first.pass a b moments settings.output made)
 
     -- once files are begun, and the keeper was told of hidden rows
-    module _ (begun_so : Result (Vec Passing Global) BeginError) (new : Beginning T W L) (begins : IfOk begun_so (λ passed. BeginsAll words.tails settings old.keeper.store.rows now listed passed.items old new))
+    module _ (begun_so : Result BegunFiles BeginError) (new : Beginning T W L) (begins : IfOk begun_so (λ files. BeginsAll words.tails settings old.keeper.store.rows now listed (came_of files) old new))
         (ended : IfErr begun_so (λ what. BeginsSome words.tails settings old.keeper.store.rows now listed what old new))
         (rows_same : new.keeper.store.rows ≡ old.keeper.store.rows)
-        (result : Result (Vec Passing Global) BeginError) (hid : Keeping) (hides : HidesBegun settings.inputs listed begun_so result new.keeper hid) where
+        (result : Result BegunFiles BeginError) (hid : Keeping) (hides : HidesBegun settings.inputs listed begun_so result new.keeper hid) where
       pub further : Further words start (at_phase words start moments a b new.folder.told new.crew hid (phase_begun result))
       further = stands_begun words reads counts start moments a b now old (so_far words start old.crew first.store first.pass a b moments settings.output made) stands_out refl refl
           (given words start old.crew first.store first.pass a b moments settings.output made).ends sets.of_inputs begun_so result new hid begins ended rows_same hides
@@ -182,28 +183,28 @@ module _ {T W L D : Type 0} (words : Words T W L D) (reads : (disk : D) → IfSo
         starts = map_twice length_of words.wires.outcomes wires ∙ ap (map (λ (w : W). length_of (words.wires.outcomes w))) parted
             ∙ map_both (λ (w : W). length_of (words.wires.outcomes w)) (take settings.output.workers wires) left
 
-        pub served : (passed : List Passing) → HasPassed result passed → IsTelling met → IfErr result (λ _. ¬ (IsTelling met)) → Collects hid ending.keeper → hid.held ≡ None →
+        pub served : (passed : List Passing) → HasPassed result passed → AreAllBegun result → Collects hid ending.keeper → hid.held ≡ None →
             (events : List Event) → ending.shown ≡ with_events events new.folder.told → IsServedAtEnd settings old.keeper.store.rows listed passed ending.keeper.tracked.notes folder ending.shown
-        served passed has_passed telling untold collects none_held events then = by_result begun_so result begins hides has_passed untold
+        served passed has_passed all_begun collects none_held events then = by_result begun_so result begins hides has_passed all_begun
           where
-            by_result : (b r : Result (Vec Passing Global) BeginError) → IfOk b (λ all. BeginsAll words.tails settings old.keeper.store.rows now listed all.items old new) → HidesBegun settings.inputs listed b r new.keeper hid → HasPassed r passed →
-                IfErr r (λ _. ¬ (IsTelling met)) → IsServedAtEnd settings old.keeper.store.rows listed passed ending.keeper.tracked.notes folder ending.shown
-            by_result (Ok paths) (Ok same) all hides_all are not =
-                subst (λ (l : List Passing). IsServedAtEnd settings old.keeper.store.rows listed l ending.keeper.tracked.notes folder ending.shown) (sym (are ∙ ap (λ (v : Vec Passing Global). v.items) hides_all.0))
-                (served_at_end words.tails settings old.keeper.store.rows now listed paths.items folder old new has.shown (since_earlier (told_scan start folder) (told_so start folder has))
-                (ap (λ (k : Keeping). k.tracked.notes) first.is) all
+            by_result : (b r : Result BegunFiles BeginError) → IfOk b (λ files. BeginsAll words.tails settings old.keeper.store.rows now listed (came_of files) old new) → HidesBegun settings.inputs listed b r new.keeper hid → HasPassed r passed →
+                AreAllBegun r → IsServedAtEnd settings old.keeper.store.rows listed passed ending.keeper.tracked.notes folder ending.shown
+            by_result (Ok files) (Ok same) all hides_all are none_failed =
+                subst (λ (l : List Passing). IsServedAtEnd settings old.keeper.store.rows listed l ending.keeper.tracked.notes folder ending.shown) (sym (are ∙ ap (λ (b : BegunFiles). b.passed.items) hides_all.0))
+                (served_at_end words.tails settings old.keeper.store.rows now listed (came_of files) folder old new has.shown (since_earlier (told_scan start folder) (told_so start folder has))
+                (ap (λ (k : Keeping). k.tracked.notes) first.is) (ap (λ (b : BegunFiles). b.faulty) (sym hides_all.0) ∙ none_failed) all
                 (all_are_seen words reads counts start moments a b now old (so_far words start old.crew first.store first.pass a b moments settings.output made) stands_out refl refl
-                (given words start old.crew first.store first.pass a b moments settings.output made).ends sets.of_inputs paths.items new all)
+                (given words start old.crew first.store first.pass a b moments settings.output made).ends sets.of_inputs (came_of files) new all)
                 hid (subst (λ (l : List Row). TellsHidden settings.inputs listed l new.keeper hid) rows_same hides_all.1)
                 ending.keeper collects none_held events ending.shown then)
-            by_result (Ok paths) (Err what) all hides_some are not = absurd (not telling)
-            by_result (Err what) (Ok paths) all never are not = absurd never
-            by_result (Err what) (Err other) all same are not = absurd (not telling)
+            by_result (Ok files) (Err what) all hides_some are none = absurd none
+            by_result (Err what) (Ok files) all never are none_failed = absurd never
+            by_result (Err what) (Err other) all same are none = absurd none
 
-        pub accounted : OneChoice → Covers → (passed : List Passing) → HasPassed result passed → IfErr result (λ _. ¬ (IsTelling met)) → Collects hid ending.keeper → hid.held ≡ None →
+        pub accounted : OneChoice → Covers → (passed : List Passing) → HasPassed result passed → (IsTelling met → AreAllBegun result) → Collects hid ending.keeper → hid.held ≡ None →
             (events : List Event) → ending.shown ≡ with_events events new.folder.told → Pairs OutcomesGoOn (map words.wires.outcomes wires) (map words.wires.outcomes after) →
             AccountedOver words.disks settings old.keeper.store.rows listed (length folder.scanned.events)
             (ended_objects words start ending met left after has_ended folder has clock_tells wires_tell (map words.wires.outcomes wires) starts) met passed ending.keeper.shipped ending.keeper.dropped
-        accounted one covers passed has_passed untold collects none_held events then go_on =
+        accounted one covers passed has_passed told_where_begun collects none_held events then go_on =
             ended_is_accounted_for words start ending met left after has_ended folder has clock_tells wires_tell (map words.wires.outcomes wires) starts one covers sets.gave passed
-            (λ telling. served passed has_passed telling untold collects none_held events then) go_on
+            (λ telling. served passed has_passed (told_where_begun telling) collects none_held events then) go_on

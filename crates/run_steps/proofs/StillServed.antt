@@ -23,7 +23,7 @@ use Rattle.wire_base.specs.declared.note.Note.TheVariants.{Announce, Begin, Forg
 use Rattle.wire_base.specs.declared.numbers.Moment.{Moment}
 use Rattle.wire_base.specs.declared.row.Row.{Row}
 use Rattle.run_steps.specs.Beginning.{Beginning}
-use Rattle.run_steps.specs.BeginsAll.{BeginsAll}
+use Rattle.run_steps.specs.BeginsAll.{BeginsAll, Came}
 use Rattle.run_steps.specs.Begun.{AreAllSeen, noted_begin}
 use Rattle.run_steps.specs.HiddenRows.{AreAllForgotten, TellsHidden, WasTold, hidden_notes}
 use Rattle.run_steps.specs.Releasing.{with_events}
@@ -213,19 +213,19 @@ pub record IsServedAtEnd (settings : Settings) (rows : List Row) (listed : List 
   pub is : shown ≡ Some ended
   pub served : AreServed settings rows listed passed noted (record folder { ended = ended })
 
-pub served_at_end : {T W L : Type 0} (tails : TailWords T) (settings : Settings) (rows : List Row) (now : Moment) (listed : List Listed) (passed : List Passing) (folder : FolderTold)
+pub served_at_end : {T W L : Type 0} (tails : TailWords T) (settings : Settings) (rows : List Row) (now : Moment) (listed : List Listed) (came : Came) (folder : FolderTold)
     (old new : Beginning T W L) → old.folder.told ≡ Some folder.scanned → length folder.earlier.events ≤ length folder.scanned.events → old.keeper.tracked.notes ≡ [] →
-    BeginsAll tails settings rows now listed passed old new → AreAllSeen rows listed new.keeper.tracked.notes → (hid : Keeping) → TellsHidden settings.inputs listed rows new.keeper hid →
+    came.faulty ≡ false → BeginsAll tails settings rows now listed came old new → AreAllSeen rows listed new.keeper.tracked.notes → (hid : Keeping) → TellsHidden settings.inputs listed rows new.keeper hid →
     (keeper : Keeping) → Collects hid keeper → hid.held ≡ None → (events : List Event) (shown : Option FolderHistory) → shown ≡ with_events events new.folder.told →
-    IsServedAtEnd settings rows listed passed keeper.tracked.notes folder shown
-served_at_end {T} {W} {L} tails settings rows now listed passed folder old new is since none_told begins seen hid hides keeper collects none_held events shown grown =
-    at_end (serves_from tails settings rows now (length folder.earlier.events) 0 (length folder.scanned.events) listed passed folder.scanned old begins.mid is since (omega arith) begins.begins)
+    IsServedAtEnd settings rows listed came.passed keeper.tracked.notes folder shown
+served_at_end {T} {W} {L} tails settings rows now listed came folder old new is since none_told none_failed begins seen hid hides keeper collects none_held events shown grown =
+    at_end (serves_from tails settings rows now (length folder.earlier.events) 0 (length folder.scanned.events) listed came folder.scanned old begins.mid is since (omega arith) none_failed begins.begins)
   where
     later : GrowsBehind (length listed) new.keeper.tracked.notes keeper.tracked.notes
     later =
         grows_on (length listed) new.keeper.tracked.notes hid.tracked.notes keeper.tracked.notes (hidden_grow settings.inputs listed rows new.keeper hid hides) (collected_grow (length listed) hid keeper collects none_held)
 
-    at_end : ServesFrom tails settings rows now (length folder.earlier.events) 0 (length folder.scanned.events) listed passed folder.scanned old begins.mid → IsServedAtEnd settings rows listed passed keeper.tracked.notes folder shown
+    at_end : ServesFrom tails settings rows now (length folder.earlier.events) 0 (length folder.scanned.events) listed came.passed folder.scanned old begins.mid → IsServedAtEnd settings rows listed came.passed keeper.tracked.notes folder shown
     at_end of = record {
       ended = record folder.scanned { events = (folder.scanned.events ++ of.events) ++ events };
       is = grown ∙ ap (with_events events) (ap (λ (s : Beginning T W L). s.folder.told) begins.others ∙ of.told);
@@ -233,7 +233,7 @@ served_at_end {T} {W} {L} tails settings rows now listed passed folder old new i
         each =
             still_served settings.inputs (length listed) of.more keeper.tracked.notes grows (folder_trace (length folder.earlier.events) (with_more folder.scanned of.events))
             (folder_trace (length folder.earlier.events) (record folder.scanned { events = (folder.scanned.events ++ of.events) ++ events })) events refl refl (omega arith) refl
-            0 (length folder.scanned.events) listed passed (λ k one at. let within = slice_get_within listed k one at in omega (arith, within)) of.each;
+            0 (length folder.scanned.events) listed came.passed (λ k one at. let within = slice_get_within listed k one at in omega (arith, within)) of.each;
         seen = still_seen rows listed new.keeper.tracked.notes keeper.tracked.notes later seen;
         forgotten = subst (AreAllForgotten settings.inputs listed rows) (sym collects.noted) (all_forgotten settings.inputs listed rows new.keeper hid hides collects.more);
       };

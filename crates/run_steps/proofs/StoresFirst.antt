@@ -13,6 +13,7 @@ use Rattle.run_steps.specs.CarriersFail.{KeepsLink, LinksStay}
 use Rattle.run_steps.specs.CarriersGoOn.{CarrierGoesOn, CarriersGoOn}
 use Rattle.run_steps.specs.Goes.{Goes, StepWords, stop_at}
 use Rattle.run_steps.specs.LastSteps.{StoresAll, written_by}
+use Rattle.run_steps.specs.Met.{IsTelling}
 use Rattle.run_steps.specs.MetBy.{IsEndedBy, IsEndedRound, phase_after, phase_met, phase_reading}
 use Rattle.run_steps.specs.MetIn.{NoneFailed}
 use Rattle.run_steps.specs.Onward.{Onward}
@@ -140,6 +141,17 @@ module _ {T W L D F K B : Type 0} (words : StepWords T W L D F K B) (context : C
   round_by_storing (Unreachable worker) faults later_faults by = absurd by
   round_by_storing (Epochs slot) faults later_faults by = absurd by
   round_by_storing (NoNative slot) faults later_faults by = absurd by
+
+  -- and tells no report
+  pub none_told : (met : Met) → IsMetByStoring words.all.disks (written_by (crewing old before) (crewing new after)) met → ¬ (IsTelling met)
+  none_told NoMemory by telling = telling
+  none_told DiskFault by telling = telling
+  none_told Done by telling = absurd by
+  none_told Stopped by telling = absurd by
+  none_told FolderFault by telling = absurd by
+  none_told (Unreachable worker) by telling = absurd by
+  none_told (Epochs slot) by telling = absurd by
+  none_told (NoNative slot) by telling = absurd by
 
   pub not_stopped : (met : Met) → IsMetByStoring words.all.disks (written_by (crewing old before) (crewing new after)) met → met ≡ Stopped → ⊥
   not_stopped NoMemory by is = let no : NoMemory ≡ Stopped = is in cc

@@ -14,12 +14,13 @@ use Rattle.run_steps.specs.Releasing.{harvesters_of}
 use Rattle.run_steps.specs.declared.begin_error.BeginError.{BeginError}
 use Rattle.run_steps.specs.declared.begin_error.BeginError.TheVariants.{FolderFault, NoMemory, NoNative}
 use Rattle.run_steps.specs.declared.begin.Admission.{Admission}
-use Rattle.run_steps.specs.declared.begin.Admission.TheVariants.{Followed, Skipped}
+use Rattle.run_steps.specs.declared.begin.Admission.TheVariants.{Failed, Followed, Skipped}
 
 -- how many files are followed by this answer
 abbrev pub followed_by : Result Admission BeginError → ℕ
 followed_by (Ok Followed) = 1
 followed_by (Ok (Skipped why)) = 0
+followed_by (Ok Failed) = 0
 followed_by (Err error) = 0
 
 many_in : {T : Type 0} (front back : List (Laning T)) (lane : Laning T) → length (harvesters_of (front ++ lane ∷ back)) ≡ length (harvesters_of front) + (length lane.harvesters + length (harvesters_of back))
@@ -61,8 +62,9 @@ module _ {T W L : Type 0} (tails : TailWords T) (settings : Settings) (file : Li
   as_many_harvesters (Ok (Skipped Doubled)) old new begins = absurd begins
   as_many_harvesters (Ok (Skipped Old)) old new begins = absurd begins
   as_many_harvesters (Ok (Skipped Small)) old new begins = as_many_closed _ old new begins
-  as_many_harvesters (Err FolderFault) old new (inr begins) = as_many_closed _ old new begins
-  as_many_harvesters (Err FolderFault) old new (inl begins) = omega (arith, ap (λ (c : Crew T W L). length (harvesters_of (lanings c.lanes.items))) begins.crew)
+  as_many_harvesters (Ok Failed) old new (inr begins) = as_many_closed _ old new begins
+  as_many_harvesters (Ok Failed) old new (inl begins) = omega (arith, ap (λ (c : Crew T W L). length (harvesters_of (lanings c.lanes.items))) begins.crew)
+  as_many_harvesters (Err FolderFault) old new begins = absurd begins
   as_many_harvesters (Err NoMemory) old new (inl begins) = omega (arith, ap (λ (c : Crew T W L). length (harvesters_of (lanings c.lanes.items))) begins.crew)
   as_many_harvesters (Err (NoNative slot)) old new begins = as_many_closed _ old new begins.1
   as_many_harvesters (Err NoMemory) old new (inr (inr begins)) = as_many_closed _ old new begins
@@ -81,8 +83,9 @@ module _ {T W L : Type 0} (tails : TailWords T) (settings : Settings) (file : Li
   as_many_open (Ok (Skipped Doubled)) old new below begins = absurd begins
   as_many_open (Ok (Skipped Old)) old new below begins = absurd begins
   as_many_open (Ok (Skipped Small)) old new below begins = none_more_open _ old new below begins
-  as_many_open (Err FolderFault) old new below (inr begins) = none_more_open _ old new below begins
-  as_many_open (Err FolderFault) old new below (inl begins) = omega (arith, begins.opens.open_tails)
+  as_many_open (Ok Failed) old new below (inr begins) = none_more_open _ old new below begins
+  as_many_open (Ok Failed) old new below (inl begins) = omega (arith, begins.opens.open_tails)
+  as_many_open (Err FolderFault) old new below begins = absurd begins
   as_many_open (Err NoMemory) old new below (inl begins) = omega (arith, begins.opens.open_tails)
   as_many_open (Err (NoNative slot)) old new below begins = none_more_open _ old new below begins.1
   as_many_open (Err NoMemory) old new below (inr (inr begins)) = none_more_open _ old new below begins

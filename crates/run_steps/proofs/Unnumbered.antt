@@ -1,5 +1,5 @@
 -- A run that ends since a file has no numbers opened one that told none.
-use Rattle.std.proofs.Common.{◌≡◌, ◌⊎◌, inl, inr, ℕ, List, [], ◌∷◌, ◌++◌, length, take, Option, None, Some, IfSome, IfErr, IsErrAnd, Result, Ok, Err, Vec, Global, refl, sym, ap, subst, ◌∙◌, arith}
+use Rattle.std.proofs.Common.{◌≡◌, ◌⊎◌, inl, inr, ℕ, List, [], ◌∷◌, ◌++◌, length, take, Option, None, Some, IfSome, IfErr, IsErrAnd, Result, Ok, Err, Bool, true, false, refl, sym, ap, subst, ◌∙◌, arith}
 use Rattle.std.proofs.lemmas.List.{length-append}
 use Rattle.std.specs.Prelude.{slice_get}
 use Rattle.event_tree.specs.declared.settings.Settings.{Settings}
@@ -13,14 +13,15 @@ use Rattle.rounds.specs.declared.crew.Crew.{Crew}
 use Rattle.wire_base.specs.declared.numbers.Moment.{Moment}
 use Rattle.wire_base.specs.declared.numbers.Slot.{Slot}
 use Rattle.wire_base.specs.declared.row.Row.{Row}
-use Rattle.run_steps.specs.BeginErrors.{met_of}
-use Rattle.run_steps.specs.Beginning.{Beginning, ClosesFile, FailsToTell, ListedFile}
+use Rattle.run_steps.specs.BeginErrors.{ended_behind, met_of}
+use Rattle.run_steps.specs.Beginning.{Beginning, BeginsOne, ClosesFile, FailsToTell, ListedFile}
 use Rattle.run_steps.specs.BeginsAll.{EndsInFiles, file_at}
 use Rattle.run_steps.specs.Releasing.{with_events}
 use Rattle.run_steps.specs.Unnumbered.{IsMetUnnumbered, WasOpenedUnnumbered}
 use Rattle.run_steps.specs.Worked.{IsBegunWith, IsWorkedBy, Tolls}
 use Rattle.run_steps.specs.declared.begin_error.BeginError.{BeginError}
 use Rattle.run_steps.specs.declared.begin_error.BeginError.TheVariants as begin
+use Rattle.run_steps.specs.declared.beginning.BegunFiles.{BegunFiles}
 use Rattle.run_steps.specs.declared.met.Met.{Met}
 use Rattle.run_steps.specs.declared.met.Met.TheVariants.{DiskFault, Done, Epochs, FolderFault, NoMemory, NoNative, Stopped, Unreachable}
 use Rattle.run_steps.proofs.Serving.{ServesFrom, closed_told, got_at_end, serves_from, with_more}
@@ -55,23 +56,32 @@ module _ {T W L : Type 0} (tails : TailWords T) (settings : Settings) (rows : Li
   where_told P (Some before) each = each before refl
 
   files_unnumbered : (error : BeginError) → EndsInFiles tails settings rows now listed error old new → IsMetUnnumbered settings listed old.folder.told new.folder.told (met_of error)
-  files_unnumbered (begin.NoNative slot) (inl is) =
-      let closed = is.ended.1 in
-      let asks = closed.closed.why.asks in
-      record {
-        one = is.one;
-        listed_there = ap (λ (s : Slot). slice_get listed s.0) is.ended.0 ∙ is.is;
-        rule = asks.rule;
-        rule_is = asks.rule_is;
-        by_numbers = asks.refused.0;
-        opened = where_told (λ before. IfSome new.folder.told (λ later. WasOpenedUnnumbered is.one.path before later)) old.folder.told
-            (λ before told.
-            was_opened is.count is.one is.mid is.passed before told
-            (serves_from tails settings rows now 0 0 0 (take is.count listed) is.passed before old is.mid told (omega arith) (omega arith) is.begins) closed asks.refused.1);
-      }
+  files_unnumbered error (inl is) = subst (λ (e : BeginError). IsMetUnnumbered settings listed old.folder.told new.folder.told (met_of e)) (sym is.ended.error_is) (by_case is.came.faulty refl is.ended.what is.ended.begins)
+    where
+      by_case : (faulty : Bool) → is.came.faulty ≡ faulty → (what : BeginError) → BeginsOne tails settings (file_at rows is.count is.one now) (Err what) is.mid new →
+          IsMetUnnumbered settings listed old.folder.told new.folder.told (met_of (ended_behind faulty what))
+      by_case false none (begin.NoNative slot) begins =
+          let closed = begins.1 in
+          let asks = closed.closed.why.asks in
+          record {
+            one = is.one;
+            listed_there = ap (λ (s : Slot). slice_get listed s.0) begins.0 ∙ is.is;
+            rule = asks.rule;
+            rule_is = asks.rule_is;
+            by_numbers = asks.refused.0;
+            opened = where_told (λ before. IfSome new.folder.told (λ later. WasOpenedUnnumbered is.one.path before later)) old.folder.told
+                (λ before told.
+                was_opened is.count is.one is.mid is.came.passed before told
+                (serves_from tails settings rows now 0 0 0 (take is.count listed) is.came before old is.mid told (omega arith) (omega arith) none is.begins) closed asks.refused.1);
+          }
+      by_case false none begin.NoMemory begins = tt
+      by_case false none begin.FolderFault begins = tt
+      by_case true some (begin.NoNative slot) begins = tt
+      by_case true some begin.NoMemory begins = tt
+      by_case true some begin.FolderFault begins = tt
   files_unnumbered (begin.NoNative slot) (inr is) = absurd (let q : begin.NoNative slot ≡ begin.NoMemory = is.0 in cc)
-  files_unnumbered begin.NoMemory is = tt
-  files_unnumbered begin.FolderFault is = tt
+  files_unnumbered begin.NoMemory (inr is) = tt
+  files_unnumbered begin.FolderFault (inr is) = tt
 
   pub begun_unnumbered : {A : Type 0} (result : Result A BeginError) (what : BeginError) → IsErrAnd result (λ other. other ≡ what) → EndsInFiles tails settings rows now listed what old new →
       IfErr result (λ error. IsMetUnnumbered settings listed old.folder.told new.folder.told (met_of error))
@@ -135,8 +145,8 @@ module _ (settings : Settings) (listed : List Listed) (before mid after : Option
   none_worked crew was now (Unreachable worker) by = tt
   none_worked crew was now (Epochs slot) by = tt
 
-  pub met_unnumbered : {T W L : Type 0} (begun : Result (Vec Passing Global) BeginError) (met : Met) → IfErr begun (λ error. IsMetUnnumbered settings listed before mid (met_of error)) → (events : List Event) → after ≡ with_events events mid →
+  pub met_unnumbered : {T W L : Type 0} (begun : Result BegunFiles BeginError) (met : Met) → IfErr begun (λ error. IsMetUnnumbered settings listed before mid (met_of error)) → (events : List Event) → after ≡ with_events events mid →
       (crew : Crew T W L) (was now : Tolls) → IsBegunWith begun met ⊎ IsWorkedBy crew was now met → IsMetUnnumbered settings listed before after met
-  met_unnumbered (Ok passed) met unnumbered events is crew was now (inl of) = absurd of
+  met_unnumbered (Ok files) met unnumbered events is crew was now (inl of) = subst (IsMetUnnumbered settings listed before after) (sym of.1) tt
   met_unnumbered (Err error) met unnumbered events is crew was now (inl of) = subst (IsMetUnnumbered settings listed before after) (sym of) (unnumbered_on (met_of error) events is unnumbered)
   met_unnumbered begun met unnumbered events is crew was now (inr by) = none_worked crew was now met by

@@ -15,7 +15,6 @@ use Rattle.event_tree.specs.declared.output_rule.OutputRule.{OutputRule}
 use Rattle.event_tree.specs.declared.settings.Settings.{Settings}
 use Rattle.kept_rows.specs.Failures.{HasLastFailures}
 use Rattle.kept_rows.proofs.Acknowledging.{got_in_front}
-use Rattle.report.specs.declared.passing.Passing.{Passing}
 use Rattle.rounds.specs.CarrierTurns.{seen_of}
 use Rattle.rounds.specs.Making.{IsBegunCarrier, StandsForNothing, wires_of}
 use Rattle.rounds.specs.Pairs.{Pairs}
@@ -31,6 +30,7 @@ use Rattle.run_steps.specs.Settling.{IsMetByStoring, Written}
 use Rattle.run_steps.specs.Worked.{IsFollowedBy}
 use Rattle.run_steps.specs.declared.begin_error.BeginError.{BeginError}
 use Rattle.run_steps.specs.declared.begin_error.BeginError.TheVariants as begin
+use Rattle.run_steps.specs.declared.beginning.BegunFiles.{BegunFiles}
 use Rattle.run_steps.specs.declared.met.Met.{Met}
 use Rattle.run_steps.specs.declared.met.Met.TheVariants.{DiskFault, Done, Epochs, FolderFault, NoMemory, Stopped, Unreachable, NoNative}
 use Rattle.told_scans.proofs.Members.{some_is}
@@ -110,7 +110,7 @@ module _ {W L : Type 0} (links : LinkWords L) (wires : WireWords W) (attempts ti
   has_failed_at None worker failing failed stay ended = tt
   has_failed_at (Some list) worker failing failed stay ended = by_list list worker failing failed stay ended
 
-module _ {T W L D : Type 0} (words : Words T W L D) (attempts timeout earlier : ℕ) (starts : List (Option ℕ)) (moments : Option (List ℕ)) (begun : Result (Vec Passing Global) BeginError) (since : Since T W L D) (written : Written D) (three : List (Carrier W L)) (unused all : List W) where
+module _ {T W L D : Type 0} (words : Words T W L D) (attempts timeout earlier : ℕ) (starts : List (Option ℕ)) (moments : Option (List ℕ)) (begun : Result BegunFiles BeginError) (since : Since T W L D) (written : Written D) (three : List (Carrier W L)) (unused all : List W) where
   by_following : (met : Met) → IsFollowedBy words.tails words.disks attempts since begun met → AreFailing words.links words.wires attempts timeout earlier starts (sending moments since.now.carriers.items) →
       LinksStay since.now.carriers.items three → EndsCarriers words.links words.wires three unused all → FailedAsMet words.wires attempts timeout earlier starts moments all met
   by_following Done follows failing stay ended = tt
@@ -123,8 +123,8 @@ module _ {T W L D : Type 0} (words : Words T W L D) (attempts timeout earlier : 
   by_following (Unreachable worker) follows failing stay ended =
       has_failed_at words.links words.wires attempts timeout earlier starts since.now.carriers.items three unused all moments worker failing (failed begun follows) stay ended
     where
-      failed : (b : Result (Vec Passing Global) BeginError) → IsFollowedBy words.tails words.disks attempts since b (Unreachable worker) → HasFailed attempts since.now.carriers.items worker
-      failed (Ok passed) follows = follows (λ is. cc)
+      failed : (b : Result BegunFiles BeginError) → IsFollowedBy words.tails words.disks attempts since b (Unreachable worker) → HasFailed attempts since.now.carriers.items worker
+      failed (Ok files) follows = follows (λ is. cc)
       failed (Err begin.FolderFault) follows = let no : Unreachable worker ≡ FolderFault = follows in cc
       failed (Err begin.NoMemory) follows = let no : Unreachable worker ≡ NoMemory = follows in cc
       failed (Err (begin.NoNative slot)) follows = let no : Unreachable worker ≡ NoNative slot = follows in cc

@@ -3,13 +3,11 @@ use Rattle.std.proofs.Common.{◌≡◌, ◌⊎◌, inl, inr, ⊎_elim, ℕ, Boo
 use Rattle.std.proofs.lemmas.List.Elements.{recursion_from_All}
 use Rattle.std.specs.Prelude.{slice_get}
 use Rattle.std.specs.List.{AllByRecursion}
-use Rattle.std.specs.declared.alloc.Global.{Global}
 use Rattle.harvester.specs.HasTold.{begin_of}
 use Rattle.harvester.specs.declared.harvester.Harvester.{Harvester}
 use Rattle.lanes.specs.Laning.{Laning}
 use Rattle.outside.specs.Counts.{Rose}
 use Rattle.outside.specs.Folders.{FolderHistory}
-use Rattle.report.specs.declared.passing.Passing.{Passing}
 use Rattle.rounds.specs.Crewed.{lanings}
 use Rattle.rounds.specs.Crewing.{crew_of, crewing}
 use Rattle.rounds.specs.Pairs.{SomeOf}
@@ -36,9 +34,10 @@ use Rattle.run_steps.specs.RunState.{Finished, Phase, phase_left, within, OutOfE
 use Rattle.run_steps.specs.Settling.{IsMetByStoring, Written}
 use Rattle.run_steps.specs.SoFar.{SoFar}
 use Rattle.run_steps.specs.Stands.{Further, Stands}
-use Rattle.run_steps.specs.Worked.{IsBegunWith, IsFollowedBy, IsWorkedBy, Tolls, phase_begun, phase_worked}
+use Rattle.run_steps.specs.Worked.{AreAllBegun, IsBegunWith, IsFollowedBy, IsWorkedBy, Tolls, phase_begun, phase_worked}
 use Rattle.run_steps.specs.declared.begin_error.BeginError.{BeginError}
 use Rattle.run_steps.specs.declared.begin_error.BeginError.TheVariants as begin
+use Rattle.run_steps.specs.declared.beginning.BegunFiles.{BegunFiles}
 use Rattle.run_steps.specs.declared.met.Met.{Met}
 use Rattle.run_steps.specs.declared.met.Met.TheVariants.{DiskFault, Done, Epochs, FolderFault, NoMemory, Stopped, Unreachable, NoNative}
 use Rattle.run_steps.proofs.ReadersGo.{rose_on, rose_since}
@@ -92,8 +91,8 @@ ends_untold begin.FolderFault telling = telling
 ends_untold begin.NoMemory telling = telling
 ends_untold (begin.NoNative slot) telling = telling
 
-pub finished_by : (begun : Result (Vec Passing Global) BeginError) (met : Met) → IfErr begun (λ error. met ≡ met_of error) → met ≡ Done → phase_left (phase_worked begun met) ≡ Finished
-finished_by (Ok passed) met first is = ap (λ (m : Met). phase_left (phase_met m)) is
+pub finished_by : (begun : Result BegunFiles BeginError) (met : Met) → IfErr begun (λ error. met ≡ met_of error) → met ≡ Done → phase_left (phase_worked begun met) ≡ Finished
+finished_by (Ok files) met first is = ap (λ (m : Met). phase_left (phase_met m)) is
 finished_by (Err error) met first is = absurd (not_done error (sym first ∙ is))
 
 -- nor does what the last steps met
@@ -108,18 +107,20 @@ telling_before disks written met (Unreachable worker) (inr by) telling = absurd 
 telling_before disks written met (Epochs slot) (inr by) telling = absurd by
 telling_before disks written met (NoNative slot) (inr by) telling = absurd by
 
-pub untold_by : {D : Type 0} (disks : DiskWords D) (written : Written D) (begun : Result (Vec Passing Global) BeginError) (met now : Met) → IfErr begun (λ error. met ≡ met_of error) →
-    (now ≡ met) ⊎ IsMetByStoring disks written now → IfErr begun (λ _. ¬ (IsTelling now))
-untold_by disks written (Ok passed) met now first stored = tt
-untold_by disks written (Err error) met now first stored = λ telling. ends_untold error (subst IsTelling first (telling_before disks written met now stored telling))
+-- what ended the beginning of files tells no report
+pub none_told : (begun : Result BegunFiles BeginError) (error : BeginError) (met : Met) → begun ≡ Err error → met ≡ met_of error → IsTelling met → AreAllBegun begun
+none_told begun error met is first telling = absurd (ends_untold error (subst IsTelling first telling))
 
-pub out_by : (begun : Result (Vec Passing Global) BeginError) (met : Met) (slot : Slot) → IfErr begun (λ error. met ≡ met_of error) → met ≡ Epochs slot → phase_left (phase_worked begun met) ≡ OutOfEpochs slot
-out_by (Ok passed) met slot first is = ap (λ (m : Met). phase_left (phase_met m)) is
+pub all_begun_where_told : (begun : Result BegunFiles BeginError) (files : BegunFiles) (met : Met) → begun ≡ Ok files → (IsTelling met → files.faulty ≡ false) → IsTelling met → AreAllBegun begun
+all_begun_where_told begun files met is none_failed telling = subst AreAllBegun (sym is) (none_failed telling)
+
+pub out_by : (begun : Result BegunFiles BeginError) (met : Met) (slot : Slot) → IfErr begun (λ error. met ≡ met_of error) → met ≡ Epochs slot → phase_left (phase_worked begun met) ≡ OutOfEpochs slot
+out_by (Ok files) met slot first is = ap (λ (m : Met). phase_left (phase_met m)) is
 out_by (Err error) met slot first is = absurd (not_epochs error slot (sym first ∙ is))
 
 -- ---- the end
 
-module _ {T W L D : Type 0} (words : Words T W L D) (start : Began D) (begun : Result (Vec Passing Global) BeginError) (once : Bool)
+module _ {T W L D : Type 0} (words : Words T W L D) (start : Began D) (begun : Result BegunFiles BeginError) (once : Bool)
     (shown later : Option FolderHistory) (moments then : Option (List ℕ)) (crew one two three : Crew T W L) (storing first second : Storing D) (met now : Met) (old new : List W) where
   -- what each step gave
   pub record Steps : Type 0 where
@@ -187,18 +188,18 @@ module _ {T W L D : Type 0} (words : Words T W L D) (start : Began D) (begun : R
 -- ---- why
 
 -- the phase by what was met as rounds were made
-pub first_met : {T W L D : Type 0} (words : Words T W L D) (attempts : ℕ) (since : Since T W L D) (begun : Result (Vec Passing Global) BeginError) (met : Met) →
+pub first_met : {T W L D : Type 0} (words : Words T W L D) (attempts : ℕ) (since : Since T W L D) (begun : Result BegunFiles BeginError) (met : Met) →
     IsFollowedBy words.tails words.disks attempts since begun met → IfErr begun (λ error. met ≡ met_of error)
-first_met words attempts since (Ok passed) met is = tt
+first_met words attempts since (Ok files) met is = tt
 first_met words attempts since (Err first) met is = is
 
 not_stopped : Done ≡ Stopped → ⊥
 not_stopped is = cc
 
-pub done_in : {T W L D : Type 0} (words : Words T W L D) (attempts : ℕ) (since : Since T W L D) (begun : Result (Vec Passing Global) BeginError) (met : Met) →
+pub done_in : {T W L D : Type 0} (words : Words T W L D) (attempts : ℕ) (since : Since T W L D) (begun : Result BegunFiles BeginError) (met : Met) →
     IsFollowedBy words.tails words.disks attempts since begun met → met ≡ Done → IsDoneIn (crew_of since.now) since.now.storing.keeper.now
-done_in words attempts since (Ok passed) met by is =
-    subst (IsEndedBy words.tails words.disks attempts false since) is (by (λ stopped. not_stopped (sym is ∙ stopped)))
+done_in words attempts since (Ok files) met by is =
+    subst (IsEndedBy words.tails words.disks attempts files.faulty since) is (by (λ stopped. not_stopped (sym is ∙ stopped)))
 done_in words attempts since (Err error) met by is = absurd (not_done error (sym by ∙ is))
 
 some_mapped : {A B : Type 0} (P : B → Type 0) (f : A → B) (xs : List A) → SomeOf (λ x. P (f x)) xs → SomeOf P (map f xs)
@@ -282,20 +283,20 @@ module _ {T W L D : Type 0} (words : Words T W L D) (attempts mid_faults : ℕ) 
     by_storing (Epochs slot) is = absurd is
     by_storing (NoNative slot) is = absurd is
 
-    by_following : (begun : Result (Vec Passing Global) BeginError) (met : Met) →
+    by_following : (begun : Result BegunFiles BeginError) (met : Met) →
         IsFollowedBy words.tails words.disks attempts since begun met →
         IfOk begun (λ _. met ≡ Stopped → Rose before.rings after.rings) → IsBegunWith begun met ⊎ IsWorkedBy crew before after met
     by_following (Err other) met is rang = inl is
-    by_following (Ok passed) Stopped is rang = inr (rang refl)
-    by_following (Ok passed) Done is rang = inr tt
-    by_following (Ok passed) NoMemory is rang = inr tt
-    by_following (Ok passed) DiskFault is rang = inr (by_rounds DiskFault (is (λ e. cc)))
-    by_following (Ok passed) FolderFault is rang = inr (⊎_elim (λ (no : false ≡ true). absurd cc) (λ met. by_rounds FolderFault met) (is (λ e. cc)))
-    by_following (Ok passed) (Unreachable worker) is rang = inr (by_rounds (Unreachable worker) (is (λ e. cc)))
-    by_following (Ok passed) (Epochs slot) is rang = inr (by_rounds (Epochs slot) (is (λ e. cc)))
-    by_following (Ok passed) (NoNative slot) is rang = inr (by_rounds (NoNative slot) (is (λ e. cc)))
+    by_following (Ok files) Stopped is rang = inr (rang refl)
+    by_following (Ok files) Done is rang = inr tt
+    by_following (Ok files) NoMemory is rang = inr tt
+    by_following (Ok files) DiskFault is rang = inr (by_rounds DiskFault (is (λ e. cc)))
+    by_following (Ok files) FolderFault is rang = ⊎_elim (λ faulty. inl (faulty, refl)) (λ met. inr (by_rounds FolderFault met)) (is (λ e. cc))
+    by_following (Ok files) (Unreachable worker) is rang = inr (by_rounds (Unreachable worker) (is (λ e. cc)))
+    by_following (Ok files) (Epochs slot) is rang = inr (by_rounds (Epochs slot) (is (λ e. cc)))
+    by_following (Ok files) (NoNative slot) is rang = inr (by_rounds (NoNative slot) (is (λ e. cc)))
 
-    pub cause : (begun : Result (Vec Passing Global) BeginError) (met now : Met) →
+    pub cause : (begun : Result BegunFiles BeginError) (met now : Met) →
         IsFollowedBy words.tails words.disks attempts since begun met →
         IfOk begun (λ _. met ≡ Stopped → Rose before.rings after.rings) →
         (now ≡ met) ⊎ IsMetByStoring words.disks (record { a = first.a.now; b = first.b.now; new_a = second.a.now; new_b = second.b.now }) now →

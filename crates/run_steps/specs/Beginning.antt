@@ -15,7 +15,7 @@ use Rattle.keeper.specs.Keeping.{Keeping}
 use Rattle.lanes.specs.Laning.{Laning}
 use Rattle.outside.specs.Counts.{Rose}
 use Rattle.outside.specs.declared.failed.FolderError.{FolderError}
-use Rattle.outside.specs.declared.failed.FolderError.TheVariants.{Failed, NoMemory as WithoutMemory}
+use Rattle.outside.specs.declared.failed.FolderError.TheVariants.{Failed as Failing, NoMemory as WithoutMemory}
 use Rattle.outside.specs.declared.folder.Folder.{Ghosts as FolderGhosts}
 use Rattle.prospect.specs.declared.listed.Listed.{Listed}
 use Rattle.report.specs.declared.passing.Why.{Why}
@@ -34,7 +34,7 @@ use Rattle.run_steps.specs.declared.begin_error.BeginError.{BeginError}
 use Rattle.run_steps.specs.declared.begin_error.BeginError.TheVariants.{FolderFault, NoMemory, NoNative}
 use Rattle.run_steps.specs.declared.opening.Opening.{Opening}
 use Rattle.run_steps.specs.declared.begin.Admission.{Admission}
-use Rattle.run_steps.specs.declared.begin.Admission.TheVariants.{Followed, Skipped}
+use Rattle.run_steps.specs.declared.begin.Admission.TheVariants.{Failed, Followed, Skipped}
 
 -- a listed file, its slot, where it starts, and the moment of the scan
 pub record ListedFile : Type 0 where
@@ -140,16 +140,18 @@ module _ {T : Type 0} (tails : TailWords T) (settings : Settings) (file : Listed
     pub record FailsToTell (error : IdentityError) : Type 0 where
       pub asks : AsksKey fresh asked (Err error)
 
-    -- why the file is skipped, if it is; or why that is not known
-    abbrev pub TellsKey : Result (Option Why) BeginError → Type 0
+    -- what comes of the file, if it is not followed; or why that is not known
+    abbrev pub TellsKey : Result (Option Admission) BeginError → Type 0
     TellsKey (Ok None) = HasListedKey
-    TellsKey (Ok (Some Moved)) = HasOtherKey
-    TellsKey (Ok (Some Small)) = IsTooSmall
-    TellsKey (Ok (Some Doubled)) = ⊥
-    TellsKey (Ok (Some Gone)) = ⊥
-    TellsKey (Ok (Some Old)) = ⊥
+    TellsKey (Ok (Some Followed)) = ⊥
+    TellsKey (Ok (Some (Skipped Moved))) = HasOtherKey
+    TellsKey (Ok (Some (Skipped Small))) = IsTooSmall
+    TellsKey (Ok (Some (Skipped Doubled))) = ⊥
+    TellsKey (Ok (Some (Skipped Gone))) = ⊥
+    TellsKey (Ok (Some (Skipped Old))) = ⊥
+    TellsKey (Ok (Some Failed)) = FailsToTell ReadFault
     TellsKey (Err NoMemory) = (result : Result Identity IdentityError) × AsksKey fresh asked result
-    TellsKey (Err FolderFault) = FailsToTell ReadFault
+    TellsKey (Err FolderFault) = ⊥
     TellsKey (Err (NoNative slot)) = (slot ≡ file.slot) × FailsToTell WithoutNumbers
 
 -- ---- by what the folder answered
@@ -221,7 +223,7 @@ pub record GivesAskedUp {T W L : Type 0} (tails : TailWords T) (settings : Setti
 abbrev pub ForSomeReason : {T : Type 0} → T → T → Type 0
 ForSomeReason fresh asked = Unit {0}
 
--- the file of this tail is followed, or was skipped for this reason, or ended the run
+-- the file of this tail is followed, or was skipped for this reason, or failed, or ended the beginning of files
 abbrev pub FollowsListed : {T W L : Type 0} → TailWords T → Settings → ListedFile → T → Result Admission BeginError → Beginning T W L → Beginning T W L → Type 0
 FollowsListed tails settings file fresh (Ok Followed) old new = FollowsAsked tails settings file fresh old new
 FollowsListed tails settings file fresh (Ok (Skipped Moved)) old new = ClosesAsked tails settings file fresh (HasOtherKey tails settings file) old new
@@ -229,9 +231,10 @@ FollowsListed tails settings file fresh (Ok (Skipped Small)) old new = ClosesAsk
 FollowsListed tails settings file fresh (Ok (Skipped Doubled)) old new = ⊥
 FollowsListed tails settings file fresh (Ok (Skipped Gone)) old new = ⊥
 FollowsListed tails settings file fresh (Ok (Skipped Old)) old new = ⊥
-FollowsListed tails settings file fresh (Err NoMemory) old new = GivesAskedUp tails settings file fresh old new ⊎ ClosesAsked tails settings file fresh ForSomeReason old new
-FollowsListed tails settings file fresh (Err FolderFault) old new =
+FollowsListed tails settings file fresh (Ok Failed) old new =
     ClosesAsked tails settings file fresh (λ fresh asked. FailsToTell tails settings file fresh asked ReadFault) old new
+FollowsListed tails settings file fresh (Err NoMemory) old new = GivesAskedUp tails settings file fresh old new ⊎ ClosesAsked tails settings file fresh ForSomeReason old new
+FollowsListed tails settings file fresh (Err FolderFault) old new = ⊥
 FollowsListed tails settings file fresh (Err (NoNative slot)) old new =
     (slot ≡ file.slot) × ClosesAsked tails settings file fresh (λ fresh asked. FailsToTell tails settings file fresh asked WithoutNumbers) old new
 
@@ -242,8 +245,9 @@ BeginsOne tails settings file (Ok (Skipped Moved)) old new = ClosesFile tails se
 BeginsOne tails settings file (Ok (Skipped Small)) old new = ClosesFile tails settings file (IsTooSmall tails settings file) old new
 BeginsOne tails settings file (Ok (Skipped Doubled)) old new = ⊥
 BeginsOne tails settings file (Ok (Skipped Old)) old new = ⊥
-BeginsOne tails settings file (Err FolderFault) old new =
-    OpensNone tails file (Err Failed) old new ⊎ ClosesFile tails settings file (λ fresh asked. FailsToTell tails settings file fresh asked ReadFault) old new
+BeginsOne tails settings file (Ok Failed) old new =
+    OpensNone tails file (Err Failing) old new ⊎ ClosesFile tails settings file (λ fresh asked. FailsToTell tails settings file fresh asked ReadFault) old new
+BeginsOne tails settings file (Err FolderFault) old new = ⊥
 BeginsOne tails settings file (Err NoMemory) old new =
     OpensNone tails file (Err WithoutMemory) old new ⊎ (GivesFileUp tails settings file old new ⊎ ClosesFile tails settings file ForSomeReason old new)
 BeginsOne tails settings file (Err (NoNative slot)) old new =

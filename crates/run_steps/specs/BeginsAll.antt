@@ -1,7 +1,7 @@
 -- What beginning all listed files does (this project's profile): file by file, in the order of their slots, each is opened and
--- followed, or skipped where none is there, its key is another or it is too small for one; and then the keeper is told when each was
--- changed.
-use Rattle.std.specs.Prelude.{◌≡◌, ◌⊎◌, ℕ, suc, ◌+◌, ◌-◌, ◌^◌, ◌<◌, ◌≤◌, List, [], ◌∷◌, ◌++◌, length, take, slice_get, Some, Ok, Err}
+-- followed, or skipped where none is there, its key is another or it is too small for one, or it failed; and then the keeper is told when
+-- each was changed.
+use Rattle.std.specs.Prelude.{◌≡◌, ◌⊎◌, ◌||◌, ℕ, suc, ◌+◌, ◌-◌, ◌^◌, ◌<◌, ◌≤◌, Bool, true, false, List, [], ◌∷◌, ◌++◌, length, take, slice_get, Some, Ok, Err}
 use Rattle.std.specs.List.{AllByRecursion}
 use Rattle.event_tree.specs.declared.input_rule.InputRule.{InputRule}
 use Rattle.event_tree.specs.declared.settings.Settings.{Settings}
@@ -17,6 +17,7 @@ use Rattle.rounds.specs.Crewed.{lanings}
 use Rattle.rounds.specs.Words.{TailWords}
 use Rattle.wire_base.specs.declared.numbers.Moment.{Moment}
 use Rattle.wire_base.specs.declared.row.Row.{Row}
+use Rattle.run_steps.specs.BeginErrors.{ended_behind}
 use Rattle.run_steps.specs.BeginFor.{start_among}
 use Rattle.run_steps.specs.Beginning.{Beginning, BeginsOne, ListedFile, listed_file}
 use Rattle.run_steps.specs.Releasing.{harvesters_of}
@@ -24,48 +25,82 @@ use Rattle.run_steps.specs.Telling.{TellMoments, TellSomeMoments}
 use Rattle.run_steps.specs.declared.begin_error.BeginError.{BeginError}
 use Rattle.run_steps.specs.declared.begin_error.BeginError.TheVariants.{FolderFault, NoMemory, NoNative}
 use Rattle.run_steps.specs.declared.begin.Admission.{Admission}
-use Rattle.run_steps.specs.declared.begin.Admission.TheVariants.{Followed, Skipped}
+use Rattle.run_steps.specs.declared.begin.Admission.TheVariants.{Failed, Followed, Skipped}
+use Rattle.run_steps.specs.declared.beginning.BegunFiles.{BegunFiles}
 
--- the paths that were skipped with it
+-- ---- what came of files: the paths that were skipped, and whether some file failed
+
+pub record Came : Type 0 where
+  pub passed : List Passing
+  pub faulty : Bool
+
+abbrev pub came_of : BegunFiles → Came
+came_of begun = record { passed = begun.passed.items; faulty = begun.faulty }
+
+abbrev pub none_came : Came
+none_came = record { passed = []; faulty = false }
+
+-- of some, and then of others
+abbrev pub both_came : Came → Came → Came
+both_came first later = record { passed = first.passed ++ later.passed; faulty = first.faulty || later.faulty }
+
+-- of one
 abbrev pub passed_by : Admission → Listed → List Passing
 passed_by Followed listed = []
 passed_by (Skipped why) listed = record { path = listed.path; why = why } ∷ []
+passed_by Failed listed = []
+
+abbrev pub has_failed : Admission → Bool
+has_failed Followed = false
+has_failed (Skipped why) = false
+has_failed Failed = true
+
+abbrev pub came_by : Admission → Listed → Came
+came_by begun listed = record { passed = passed_by begun listed; faulty = has_failed begun }
+
+-- ---- file by file
 
 -- it starts by its row among these
 abbrev pub file_at : List Row → ℕ → Listed → Moment → ListedFile
 file_at rows slot listed now = listed_file (record { 0 = slot }) listed (start_among rows listed) now
 
 module _ {T W L : Type 0} (tails : TailWords T) (settings : Settings) where
-  -- a file was opened and followed, or skipped with this path
-  pub record BeginsOrPasses (file : ListedFile) (more : List Passing) (old new : Beginning T W L) : Type 0 where
+  -- a file was opened and followed, or skipped, or failed
+  pub record BeginsOrPasses (file : ListedFile) (more : Came) (old new : Beginning T W L) : Type 0 where
     pub begun : Admission
     pub begins : BeginsOne tails settings file (Ok begun) old new
-    pub more_is : more ≡ passed_by begun file.listed
+    pub more_is : more ≡ came_by begun file.listed
 
-  -- the call ended in it, or as its path was to be noted as skipped
-  abbrev pub EndsInOne : ListedFile → BeginError → Beginning T W L → Beginning T W L → Type 0
-  EndsInOne file error old new = BeginsOne tails settings file (Err error) old new ⊎ ((error ≡ NoMemory) × (why : Why) × BeginsOne tails settings file (Ok (Skipped why)) old new)
+  -- the call ended in it, where some file had failed before or none
+  pub record EndsBehind (file : ListedFile) (faulty : Bool) (error : BeginError) (old new : Beginning T W L) : Type 0 where
+    pub what : BeginError
+    pub begins : BeginsOne tails settings file (Err what) old new
+    pub error_is : error ≡ ended_behind faulty what
+
+  -- so it did, or as its path was to be noted as skipped
+  abbrev pub EndsInOne : ListedFile → Bool → BeginError → Beginning T W L → Beginning T W L → Type 0
+  EndsInOne file faulty error old new = EndsBehind file faulty error old new ⊎ ((error ≡ NoMemory) × (why : Why) × BeginsOne tails settings file (Ok (Skipped why)) old new)
 
 module _ {T W L : Type 0} (tails : TailWords T) (settings : Settings) (rows : List Row) (now : Moment) where
-  -- one file was opened or skipped, and then the rest
-  pub record BeginsFirst (slot : ℕ) (listed : Listed) (Rest : List Passing → Beginning T W L → Type 0) (passed : List Passing) (old : Beginning T W L) : Type 0 where
+  -- one file was opened or skipped or failed, and then the rest
+  pub record BeginsFirst (slot : ℕ) (listed : Listed) (Rest : Came → Beginning T W L → Type 0) (came : Came) (old : Beginning T W L) : Type 0 where
     pub begun : Admission
     pub mid : Beginning T W L
     pub first : BeginsOne tails settings (file_at rows slot listed now) (Ok begun) old mid
-    pub later : List Passing
-    pub passed_are : passed ≡ passed_by begun listed ++ later
+    pub later : Came
+    pub came_is : came ≡ both_came (came_by begun listed) later
     pub rest : Rest later mid
 
   -- these files, in the order of their slots from this one on
-  abbrev pub BeginsFrom : ℕ → List Listed → List Passing → Beginning T W L → Beginning T W L → Type 0
-  BeginsFrom slot [] passed old new = (passed ≡ []) × (new ≡ old)
-  BeginsFrom slot (one ∷ listed) passed old new = BeginsFirst slot one (λ later mid. BeginsFrom (suc slot) listed later mid new) passed old
+  abbrev pub BeginsFrom : ℕ → List Listed → Came → Beginning T W L → Beginning T W L → Type 0
+  BeginsFrom slot [] came old new = (came ≡ none_came) × (new ≡ old)
+  BeginsFrom slot (one ∷ listed) came old new = BeginsFirst slot one (λ later mid. BeginsFrom (suc slot) listed later mid new) came old
 
   module _ (listed : List Listed) where
     -- each of them, and then the keeper was told when those were changed that are followed
-    pub record BeginsAll (passed : List Passing) (old new : Beginning T W L) : Type 0 where
+    pub record BeginsAll (came : Came) (old new : Beginning T W L) : Type 0 where
       pub mid : Beginning T W L
-      pub begins : BeginsFrom 0 listed passed old mid
+      pub begins : BeginsFrom 0 listed came old mid
       pub tell : TellMoments rows 0 listed mid.keeper new.keeper
       pub others : new ≡ record mid { keeper = new.keeper }
 
@@ -74,24 +109,24 @@ module _ {T W L : Type 0} (tails : TailWords T) (settings : Settings) (rows : Li
     -- in a file, behind the first so many
     pub record EndsInFile (error : BeginError) (old new : Beginning T W L) : Type 0 where
       pub count : ℕ
-      pub passed : List Passing
+      pub came : Came
       pub mid : Beginning T W L
-      pub begins : BeginsFrom 0 (take count listed) passed old mid
+      pub begins : BeginsFrom 0 (take count listed) came old mid
       pub one : Listed
       pub is : slice_get listed count ≡ Some one
-      pub ended : BeginsOne tails settings (file_at rows count one now) (Err error) mid new
+      pub ended : EndsBehind tails settings (file_at rows count one now) came.faulty error mid new
 
     -- out of memory behind the first so many, as the last path was to be noted as skipped
     pub record EndsBehindFile (old new : Beginning T W L) : Type 0 where
       pub count : ℕ
-      pub passed : List Passing
-      pub begins : BeginsFrom 0 (take count listed) passed old new
+      pub came : Came
+      pub begins : BeginsFrom 0 (take count listed) came old new
 
     -- out of memory behind all of them, as the keeper was told of some moments
     pub record EndsInMoments (old new : Beginning T W L) : Type 0 where
-      pub passed : List Passing
+      pub came : Came
       pub mid : Beginning T W L
-      pub begins : BeginsFrom 0 listed passed old mid
+      pub begins : BeginsFrom 0 listed came old mid
       pub tell : TellSomeMoments rows listed mid.keeper new.keeper
       pub others : new ≡ record mid { keeper = new.keeper }
 
@@ -111,7 +146,7 @@ pub record IsOfRuledInput (settings : Settings) (listed : Listed) : Type 0 where
 abbrev pub IsOfInputs : Settings → Listed → Type 0
 IsOfInputs settings listed = listed.input < length settings.inputs
 
--- beginning so many files ends early where memory is out, where the folder failed, or where one told no native numbers
+-- beginning so many files ends early where memory is out, or where one told no native numbers, maybe behind one that failed
 abbrev pub EndsBeginning : {T W L : Type 0} → ℕ → BeginError → Beginning T W L → Beginning T W L → Type 0
 EndsBeginning count NoMemory old new = Unit {0}
 EndsBeginning count FolderFault old new = Rose old.folder.faults new.folder.faults

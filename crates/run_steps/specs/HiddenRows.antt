@@ -1,15 +1,13 @@
 -- Which rows of the registry a scan hides (Filebeat reference, filestream input, `clean_removed`; this project's profile), and what the keeper
 -- is told of them: of each row that is removed, in their order and by slots behind those of the listed files, how its slot begins, where the
 -- row stands, and that it goes.
-use Rattle.std.specs.Prelude.{◌≡◌, ◌⊎◌, ℕ, suc, Contains, List, [], ◌∷◌, ◌++◌, length, slice_get, take, Option, None, Some, Result, Ok, Err, Vec}
+use Rattle.std.specs.Prelude.{◌≡◌, ◌⊎◌, ℕ, suc, Contains, List, [], ◌∷◌, ◌++◌, length, slice_get, take, Option, None, Some, Result, Ok, Err}
 use Rattle.std.specs.BTreeSet.{BTreeSet}
-use Rattle.std.specs.declared.alloc.Global.{Global}
 use Rattle.std.specs.List.{AllByRecursion, flat_map}
 use Rattle.accounts.specs.Hidden.{Hidden, hidden_begin, hidden_forget}
 use Rattle.event_tree.specs.declared.input_rule.InputRule.{InputRule}
 use Rattle.keeper.specs.Keeping.{Keeping}
 use Rattle.prospect.specs.declared.listed.Listed.{Listed}
-use Rattle.report.specs.declared.passing.Passing.{Passing}
 use Rattle.ship_core.specs.Rows.{IsInOrder}
 use Rattle.wire_base.specs.declared.note.Note.{Note}
 use Rattle.wire_base.specs.declared.row.Row.{Row}
@@ -18,6 +16,7 @@ use Rattle.run_steps.specs.Removed.{IsCleaned, IsCleanedBeside, IsRemoved}
 use Rattle.run_steps.specs.Telling.{TellsNotes}
 use Rattle.run_steps.specs.declared.begin_error.BeginError.{BeginError}
 use Rattle.run_steps.specs.declared.begin_error.BeginError.TheVariants.{NoMemory}
+use Rattle.run_steps.specs.declared.beginning.BegunFiles.{BegunFiles}
 
 -- the slot and the row, with the number of an input that cleans it
 abbrev pub hidden_as : (inputs : List InputRule) → ℕ → (row : Row) → IsCleaned inputs row.key → Hidden
@@ -68,10 +67,10 @@ module _ (inputs : List InputRule) (listed : List Listed) (rows : List Row) (old
     pub tells : TellsNotes told old new
 
 -- once files were begun: all of them were told, or memory was out behind some; where files could not all be begun, none was
-abbrev pub HidesBegun : List InputRule → List Listed → Result (Vec Passing Global) BeginError → Result (Vec Passing Global) BeginError → Keeping → Keeping → Type 0
-HidesBegun inputs listed (Ok passed) (Ok same) old new = (same ≡ passed) × TellsHidden inputs listed old.store.rows old new
-HidesBegun inputs listed (Ok passed) (Err what) old new = (what ≡ NoMemory) × TellsSomeHidden inputs listed old.store.rows old new
-HidesBegun inputs listed (Err what) (Ok passed) old new = ⊥
+abbrev pub HidesBegun : List InputRule → List Listed → Result BegunFiles BeginError → Result BegunFiles BeginError → Keeping → Keeping → Type 0
+HidesBegun inputs listed (Ok files) (Ok same) old new = (same ≡ files) × TellsHidden inputs listed old.store.rows old new
+HidesBegun inputs listed (Ok files) (Err what) old new = (what ≡ NoMemory) × TellsSomeHidden inputs listed old.store.rows old new
+HidesBegun inputs listed (Err what) (Ok files) old new = ⊥
 HidesBegun inputs listed (Err what) (Err other) old new = (other ≡ what) × (new ≡ old)
 
 -- the row was told of so

@@ -1,7 +1,6 @@
--- What a run has done once its rounds are made (this project's profile): where files could not all be begun, none is.
-use Rattle.std.specs.Prelude.{◌≡◌, ◌≢◌, ◌⊎◌, ◌≤◌, ◌<◌, ℕ, false, List, [], length, Result, Ok, Err, Vec}
+-- What a run has done once its rounds are made (this project's profile): where the beginning of files was ended, none is.
+use Rattle.std.specs.Prelude.{◌≡◌, ◌≢◌, ◌⊎◌, ◌≤◌, ◌<◌, ℕ, true, false, List, [], length, Result, Ok, Err}
 use Rattle.std.specs.Borrow.{MutBor}
-use Rattle.std.specs.declared.alloc.Global.{Global}
 use Rattle.keeper.specs.Keeping.{Keeping}
 use Rattle.outside.specs.Counts.{Rose}
 use Rattle.report.specs.declared.passing.Passing.{Passing}
@@ -12,28 +11,34 @@ use Rattle.rounds.specs.Words.{DiskWords, TailWords}
 use Rattle.rounds.specs.declared.crew.Crew.{Crew}
 use Rattle.rounds.specs.declared.storing.Storing.{Storing}
 use Rattle.run_steps.specs.BeginErrors.{met_of}
-use Rattle.run_steps.specs.MetBy.{IsEndedBy, Since, phase_met}
-use Rattle.run_steps.specs.RunState.{Leaving, Phase, Reading}
+use Rattle.run_steps.specs.MetBy.{IsEndedBy, Since, phase_met, phase_reading}
+use Rattle.run_steps.specs.RunState.{Leaving, Phase}
 use Rattle.run_steps.specs.declared.begin_error.BeginError.{BeginError}
+use Rattle.run_steps.specs.declared.beginning.BegunFiles.{BegunFiles}
 use Rattle.run_steps.specs.declared.met.Met.{Met}
 use Rattle.run_steps.specs.declared.met.Met.TheVariants.{DiskFault, Done, Epochs, FolderFault, NoMemory, NoNative, Stopped, Unreachable}
 
-abbrev pub phase_begun : Result (Vec Passing Global) BeginError → Phase
-phase_begun (Ok passed) = Reading
+abbrev pub phase_begun : Result BegunFiles BeginError → Phase
+phase_begun (Ok files) = phase_reading files.faulty
 phase_begun (Err error) = Leaving
 
-abbrev pub phase_worked : Result (Vec Passing Global) BeginError → Met → Phase
-phase_worked (Ok passed) met = phase_met met
+abbrev pub phase_worked : Result BegunFiles BeginError → Met → Phase
+phase_worked (Ok files) met = phase_met met
 phase_worked (Err error) met = Leaving
 
 -- the paths that were skipped as files were begun
-abbrev pub HasPassed : Result (Vec Passing Global) BeginError → List Passing → Type 0
-HasPassed (Ok passed) after = after ≡ passed.items
+abbrev pub HasPassed : Result BegunFiles BeginError → List Passing → Type 0
+HasPassed (Ok files) after = after ≡ files.passed.items
 HasPassed (Err error) after = after ≡ []
 
--- what was met as files were begun ends the run; else a round, or the bell, did
-abbrev pub IsFollowedBy : {T W L D : Type 0} → TailWords T → DiskWords D → ℕ → Since T W L D → Result (Vec Passing Global) BeginError → Met → Type 0
-IsFollowedBy tails disks attempts since (Ok passed) met = met ≢ Stopped → IsEndedBy tails disks attempts false since met
+-- each was begun, or skipped for its reason
+abbrev pub AreAllBegun : Result BegunFiles BeginError → Type 0
+AreAllBegun (Ok files) = files.faulty ≡ false
+AreAllBegun (Err error) = ⊥
+
+-- what ended the beginning of files ends the run; else a round, or the bell, did
+abbrev pub IsFollowedBy : {T W L D : Type 0} → TailWords T → DiskWords D → ℕ → Since T W L D → Result BegunFiles BeginError → Met → Type 0
+IsFollowedBy tails disks attempts since (Ok files) met = met ≢ Stopped → IsEndedBy tails disks attempts files.faulty since met
 IsFollowedBy tails disks attempts since (Err error) met = met ≡ met_of error
 
 -- what counts tell of the objects of a run, before it works and behind it
@@ -50,9 +55,9 @@ pub record NeverFall (before after : Tolls) : Type 0 where
   pub folder_faults : before.folder_faults ≤ after.folder_faults
   pub rings : before.rings ≤ after.rings
 
--- what was met as files were begun is met still, or what the last steps met
-abbrev pub IsBegunWith : Result (Vec Passing Global) BeginError → Met → Type 0
-IsBegunWith (Ok passed) met = ⊥
+-- what was met as files were begun is met still: some file failed, or the beginning was ended
+abbrev pub IsBegunWith : Result BegunFiles BeginError → Met → Type 0
+IsBegunWith (Ok files) met = (files.faulty ≡ true) × (met ≡ FolderFault)
 IsBegunWith (Err error) met = met ≡ met_of error
 
 -- why the run with this crew met this behind its files' beginning

@@ -16,18 +16,20 @@ use crate::telling::tell_begin;
 use file_identity::{Identity, IdentityError, opened_key};
 use harvester::Harvester;
 use keeper::Keeper;
-use outside::{Folder, Link, Tail, Wire};
+use outside::{Folder, FolderError, Link, Tail, Wire};
 use prospect::Listed;
 use report::{Passing, Why};
 use rounds::Crew;
 use std::alloc::Global;
 use wire_base::{NoMemory, Slot, Text};
 
-/// Whether a listed file is followed.
+/// What comes of a listed file.
 #[derive(Clone, Copy, Debug, PartialEq, Eq)]
 pub enum Admission {
     Followed,
     Skipped(Why),
+    /// It could not be opened, or a read failed as it was asked for its key.
+    Failed,
 }
 
 /// Adds the path of a file that was listed and is skipped.
@@ -46,9 +48,8 @@ pub fn pass_over(
     Ok(())
 }
 
-/// Opens the file, asks it for its key and follows it in the lane of its slot; or skips it. `Err` is `FolderFault`
-/// where the folder or a read failed, `NoNative` where the file wants numbers and told none, and `NoMemory`; a file that was
-/// opened is closed again then.
+/// Opens the file, asks it for its key and follows it in the lane of its slot; or skips it; or it failed. `Err` is `NoNative`
+/// where the file wants numbers and told none, and `NoMemory`. A file that was opened and is not followed is closed again.
 pub fn begin_one<F: Folder, L: Link, W: Wire<Link = L>>(
     context: Context<'_, '_>,
     opening: Opening<'_>,
@@ -64,7 +65,8 @@ pub fn begin_one<F: Folder, L: Link, W: Wire<Link = L>>(
     match folder.open(context.alloc, &opening.listed.path) {
         Ok(Some(tail)) => follow_listed(context, opening, tail, folder, crew, keeper),
         Ok(None) => Ok(Admission::Skipped(Why::Gone)),
-        Err(error) => Err(error.into()),
+        Err(FolderError::Failed) => Ok(Admission::Failed),
+        Err(FolderError::NoMemory) => Err(BeginError::NoMemory),
     }
 }
 
@@ -88,9 +90,9 @@ fn follow_listed<F: Folder, L: Link, W: Wire<Link = L>>(
             Ok(()) => Ok(Admission::Followed),
             Err(NoMemory) => Err(BeginError::NoMemory),
         },
-        Ok(Some(why)) => {
+        Ok(Some(other)) => {
             folder.close(tail);
-            Ok(Admission::Skipped(why))
+            Ok(other)
         }
         Err(error) => {
             folder.close(tail);
@@ -99,12 +101,12 @@ fn follow_listed<F: Folder, L: Link, W: Wire<Link = L>>(
     }
 }
 
-/// Why the open file is skipped, if it does not give the key with which it was listed.
+/// What comes of the open file, if it does not give the key with which it was listed.
 fn ask_key<T: Tail>(
     context: Context<'_, '_>,
     opening: Opening<'_>,
     tail: &mut T,
-) -> Result<Option<Why>, BeginError>
+) -> Result<Option<Admission>, BeginError>
     requires settings { AreInRange context.settings.now }
     requires input { opening.listed.now.input < length context.settings.now.inputs }
     ensures { TellsKey (tails_of T.Tail) context.entry.settings.now (file_of opening.entry)
@@ -120,10 +122,10 @@ fn ask_key<T: Tail>(
         tail,
     ) {
         Ok(Identity::Key(key)) if is_same(&listed.key, &key) => Ok(None),
-        Ok(Identity::Key(_)) => Ok(Some(Why::Moved)),
-        Ok(Identity::TooSmall(_)) => Ok(Some(Why::Small)),
+        Ok(Identity::Key(_)) => Ok(Some(Admission::Skipped(Why::Moved))),
+        Ok(Identity::TooSmall(_)) => Ok(Some(Admission::Skipped(Why::Small))),
         Err(IdentityError::NoNative) => Err(BeginError::NoNative(opening.slot)),
-        Err(IdentityError::ReadFault) => Err(BeginError::FolderFault),
+        Err(IdentityError::ReadFault) => Ok(Some(Admission::Failed)),
         Err(IdentityError::NoMemory) => Err(BeginError::NoMemory),
     }
 }

@@ -1,4 +1,6 @@
-use outside::FolderError;
+ghost use Rattle.std.specs.Prelude.{◌≡◌};
+ghost use Rattle.run_steps.specs.BeginErrors.{ended_behind};
+
 use thiserror::Error;
 use wire_base::{NoMemory, Slot};
 
@@ -7,7 +9,7 @@ use wire_base::{NoMemory, Slot};
 pub enum BeginError {
     #[error("out of memory")]
     NoMemory,
-    /// The folder failed, or a read of a file as it was asked for its key.
+    /// A file failed as it was opened or asked for its key, and then another had no native numbers.
     #[error("the folder failed")]
     FolderFault,
     /// The system told no inode and device of this file as it was opened, and its input knows files by them.
@@ -26,15 +28,12 @@ impl From<NoMemory> for BeginError {
     }
 }
 
-impl From<FolderError> for BeginError {
-    ghost use Rattle.run_steps.specs.BeginErrors.{IsErrorOfFolder};
-
-    ghost from_gives = { IsErrorOfFolder };
-
-    fn from(error: FolderError) -> Self {
-        match error {
-            FolderError::Failed => BeginError::FolderFault,
-            FolderError::NoMemory => BeginError::NoMemory,
-        }
+/// Why files could not all be begun if this ended it: a fault, if some file failed before, unless memory is out.
+pub(crate) fn ended_behind(faulty: bool, error: BeginError) -> BeginError
+    ensures { result ≡ ended_behind faulty error }
+{
+    match error {
+        BeginError::NoMemory => error,
+        _ => { if faulty { BeginError::FolderFault } else { error } }
     }
 }

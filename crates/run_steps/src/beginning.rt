@@ -1,19 +1,18 @@
-ghost use Rattle.std.specs.Prelude.{◌≡◌, ◌++◌, ◌<◌, ◌≤◌, [], All, IfErr, IfOk, List, OnOk, length};
+ghost use Rattle.std.specs.Prelude.{◌≡◌, ◌<◌, ◌≤◌, [], All, IfErr, IfOk, OnOk, length};
 ghost use Rattle.beat_config.specs.InRange.{AreInRange};
 ghost use Rattle.prospect.specs.ListedFiles.{IsListedInRange};
-ghost use Rattle.report.specs.declared.passing.Passing.{Passing};
 ghost use Rattle.wire_base.specs.Ranges.{IsMoment};
 ghost use Rattle.run_steps.specs.BeginErrors.{met_of};
 ghost use Rattle.run_steps.specs.Beginnable.{AreBeginnable};
 ghost use Rattle.run_steps.specs.Beginning.{beginning, file_of};
-ghost use Rattle.run_steps.specs.BeginsAll.{BeginsAll, BeginsFrom, BeginsOrPasses, BeginsSome, EndsBeginning, EndsInFiles, EndsInOne, IsOfInputs, KeepsOthers};
+ghost use Rattle.run_steps.specs.BeginsAll.{BeginsAll, BeginsFrom, BeginsOrPasses, BeginsSome, Came, EndsBeginning, EndsInFiles, EndsInOne, IsOfInputs, KeepsOthers, both_came, came_of};
 ghost use Rattle.run_steps.specs.KnownKeys.{HasRoomToBegin};
 ghost use Rattle.run_steps.specs.Starting.{AreFewFiles, starts_among};
 ghost use Rattle.run_steps.specs.Unnumbered.{IsMetUnnumbered};
 ghost use Rattle.rounds.specs.WordsOf.{tails_of};
 
 use crate::begin::{Admission, begin_one, pass_over};
-use crate::begin_error::BeginError;
+use crate::begin_error::{BeginError, ended_behind};
 use crate::context::Context;
 use crate::opening::Opening;
 use crate::telling::tell_moments;
@@ -40,19 +39,28 @@ pub struct Scanned {
     pub now: Moment,
 }
 
-/// Opens each listed file, tells the keeper how each begins, and then when each was changed. The paths that were skipped. `Err` is
-/// `FolderFault` where the folder failed, `NoNative` where a file told no numbers, and `NoMemory`; what was begun by then stays begun.
+/// What came of files that were begun.
+#[derive(Debug, Drop)]
+pub struct BegunFiles {
+    /// The paths that were skipped, each with why.
+    pub passed: Vec<Passing>,
+    /// Whether some file failed. It is not followed, and the others are.
+    pub faulty: bool,
+}
+
+/// Opens each listed file, tells the keeper how each begins, and then when each was changed. `Err` is `NoNative` where a file told
+/// no numbers, `FolderFault` where one failed before that, and `NoMemory`; what was begun by then stays begun.
 pub fn begin_all<F: Folder, L: Link, W: Wire<Link = L>>(
     context: Context<'_, '_>,
     scanned: &Scanned,
     folder: &mut F,
     crew: &mut Crew<F::Tail, W, L>,
     keeper: &mut Keeper,
-) -> Result<Vec<Passing>, BeginError>
+) -> Result<BegunFiles, BeginError>
     requires { AreBeginnable context.settings.now scanned.now crew.old keeper.old }
-    ensures begun { IfOk result (λ passed. BeginsAll (tails_of F.Tail.Tail)
+    ensures begun { IfOk result (λ begun. BeginsAll (tails_of F.Tail.Tail)
         context.entry.settings.now keeper.old.store.rows scanned.entry.now.now
-        scanned.entry.now.listed.items passed.items
+        scanned.entry.now.listed.items (came_of begun)
         (beginning F.Folder folder.old crew.old keeper.old)
         (beginning F.Folder folder.new crew.new keeper.new)) }
     ensures ended { IfErr result (λ error. BeginsSome (tails_of F.Tail.Tail)
@@ -70,9 +78,9 @@ pub fn begin_all<F: Folder, L: Link, W: Wire<Link = L>>(
         (beginning F.Folder folder.old crew.old keeper.old)
         (beginning F.Folder folder.new crew.new keeper.new) }
 {
-    let passed = begin_files(context, scanned, folder, crew, keeper)?;
+    let begun = begin_files(context, scanned, folder, crew, keeper)?;
     tell_moments(context.alloc, scanned.listed.as_slice(), keeper)?;
-    Ok(passed)
+    Ok(begun)
 }
 
 /// Opens each, from slot 0 on.
@@ -82,11 +90,11 @@ fn begin_files<F: Folder, L: Link, W: Wire<Link = L>>(
     folder: &mut F,
     crew: &mut Crew<F::Tail, W, L>,
     keeper: &mut Keeper,
-) -> Result<Vec<Passing>, BeginError>
+) -> Result<BegunFiles, BeginError>
     requires { AreBeginnable context.settings.now scanned.now crew.old keeper.old }
-    ensures begun { IfOk result (λ passed. BeginsFrom (tails_of F.Tail.Tail)
+    ensures begun { IfOk result (λ begun. BeginsFrom (tails_of F.Tail.Tail)
         context.entry.settings.now keeper.old.store.rows scanned.entry.now.now 0
-        scanned.entry.now.listed.items passed.items
+        scanned.entry.now.listed.items (came_of begun)
         (beginning F.Folder folder.old crew.old keeper.old)
         (beginning F.Folder folder.new crew.new keeper.new)) }
     ensures ended { IfErr result (λ error. EndsInFiles (tails_of F.Tail.Tail)
@@ -95,7 +103,10 @@ fn begin_files<F: Folder, L: Link, W: Wire<Link = L>>(
         (beginning F.Folder folder.old crew.old keeper.old)
         (beginning F.Folder folder.new crew.new keeper.new)) }
 {
-    let mut passed = Vec::new(context.alloc);
+    let mut begun = BegunFiles {
+        passed: Vec::new(context.alloc),
+        faulty: false,
+    };
     let mut slot = 0;
     'files: while slot < scanned.listed.len() {
         let opening = Opening {
@@ -104,20 +115,20 @@ fn begin_files<F: Folder, L: Link, W: Wire<Link = L>>(
             start: scanned.starts[slot],
             now: scanned.now,
         };
-        begin_or_pass(context, opening, folder, crew, keeper, &mut passed)?;
+        begin_or_pass(context, opening, folder, crew, keeper, &mut begun)?;
         slot += 1;
     }
-    Ok(passed)
+    Ok(begun)
 }
 
-/// Opens and follows the file, or adds its path to those that were skipped.
+/// Opens and follows the file, or adds its path to those that were skipped, or notes that it failed.
 fn begin_or_pass<F: Folder, L: Link, W: Wire<Link = L>>(
     context: Context<'_, '_>,
     opening: Opening<'_>,
     folder: &mut F,
     crew: &mut Crew<F::Tail, W, L>,
     keeper: &mut Keeper,
-    passed: &mut Vec<Passing>,
+    begun: &mut BegunFiles,
 ) -> Result<(), BeginError>
     requires settings { AreInRange context.settings.now }
     requires in_range { IsListedInRange opening.listed.now }
@@ -126,19 +137,27 @@ fn begin_or_pass<F: Folder, L: Link, W: Wire<Link = L>>(
     requires some_lanes { 0 < length crew.old.lanes.items }
     requires start { opening.start.base ≤ opening.listed.now.size }
     requires few { HasRoomToBegin opening.listed.now keeper.old }
-    ensures begun { OnOk result ((more : List Passing) ×
-        (passed.new.items ≡ passed.old.items ++ more) ×
+    ensures begun { OnOk result ((more : Came) ×
+        (came_of begun.new ≡ both_came (came_of begun.old) more) ×
         BeginsOrPasses (tails_of F.Tail.Tail) context.entry.settings.now
         (file_of opening.entry) more
         (beginning F.Folder folder.old crew.old keeper.old)
         (beginning F.Folder folder.new crew.new keeper.new)) }
     ensures ended { IfErr result (λ error. EndsInOne (tails_of F.Tail.Tail)
-        context.entry.settings.now (file_of opening.entry) error
+        context.entry.settings.now (file_of opening.entry) begun.old.faulty error
         (beginning F.Folder folder.old crew.old keeper.old)
         (beginning F.Folder folder.new crew.new keeper.new)) }
 {
-    if let Admission::Skipped(why) = begin_one(context, opening, folder, crew, keeper)? {
-        pass_over(context.alloc, opening.listed, why, passed)?;
+    match begin_one(context, opening, folder, crew, keeper) {
+        Ok(Admission::Followed) => Ok(()),
+        Ok(Admission::Skipped(why)) => {
+            pass_over(context.alloc, opening.listed, why, &mut begun.passed)?;
+            Ok(())
+        }
+        Ok(Admission::Failed) => {
+            begun.faulty = true;
+            Ok(())
+        }
+        Err(error) => Err(ended_behind(begun.faulty, error)),
     }
-    Ok(())
 }

@@ -8,14 +8,13 @@ ghost use Rattle.run_steps.specs.Removed.{HasListedKeys, SomeMayGo};
 ghost use Rattle.run_steps.specs.Telling.{TellsNotes};
 
 use crate::begin_error::BeginError;
-use crate::beginning::Scanned;
+use crate::beginning::{BegunFiles, Scanned};
 use crate::context::Context;
 use crate::keys::{is_cleaned, listed_keys, some_may_go};
 use crate::telling::tell;
 use event_tree::InputRule;
 use keeper::Keeper;
 use prospect::Listed;
-use report::Passing;
 use ship_core::Rows;
 use std::alloc::Global;
 use std::collections::BTreeSet;
@@ -52,18 +51,18 @@ pub fn tell_hidden(
 pub fn hide_begun(
     context: Context<'_, '_>,
     scanned: &Scanned,
-    begun: Result<Vec<Passing>, BeginError>,
+    begun: Result<BegunFiles, BeginError>,
     keeper: &mut Keeper,
-) -> Result<Vec<Passing>, BeginError>
+) -> Result<BegunFiles, BeginError>
     requires few_listed { length scanned.now.listed.items ≤ 65_536 }
     requires room { IfOk begun (λ _. KnowsItsKeys keeper.old) }
     ensures { HidesBegun context.entry.settings.now.inputs scanned.entry.now.listed.items
         begun result keeper.old keeper.new }
 {
-    let passed = begun?;
+    let files = begun?;
     let inputs = context.settings.inputs.as_slice();
     tell_hidden(context.alloc, inputs, scanned.listed.as_slice(), keeper)?;
-    Ok(passed)
+    Ok(files)
 }
 
 /// Rows are in the order of their keys, one for each key.

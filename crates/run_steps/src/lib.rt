@@ -28,7 +28,7 @@ mod working;
 
 pub use begin::{Admission, begin_one, pass_over};
 pub use begin_error::BeginError;
-pub use beginning::{Scanned, begin_all};
+pub use beginning::{BegunFiles, Scanned, begin_all};
 pub use context::{Context, Surroundings, System};
 pub use crew::{BOX_NOTES, Passes, crew_of};
 pub use follow::{PAUSE_MS, met_behind, met_in, pause_where_still};

@@ -1,4 +1,4 @@
-ghost use Rattle.std.specs.Prelude.{◌≡◌, ◌≢◌, ◌⊎◌, ◌^◌, ◌-◌, ◌≤◌, ◌||◌, Bool, None, IfErr, IfNone, IfOk, IfSome, Some, length, true};
+ghost use Rattle.std.specs.Prelude.{◌≡◌, ◌≢◌, ◌⊎◌, ◌^◌, ◌-◌, ◌≤◌, ◌||◌, Bool, None, IfErr, IfNone, IfOk, IfSome, Some, false, length, true};
 ghost use Rattle.outside.specs.Counts.{Rose, next_count};
 ghost use Rattle.rounds.specs.Crewed.{lanings};
 ghost use Rattle.rounds.specs.Crewing.{crewing};
@@ -6,6 +6,7 @@ ghost use Rattle.rounds.specs.Pairs.{SomeOf};
 ghost use Rattle.rounds.specs.WordsOf.{disks_of, tails_of};
 ghost use Rattle.run_steps.specs.ClosesTail.{HasFailedFile};
 ghost use Rattle.run_steps.specs.Goes.{Goes, step_words, stop_at};
+ghost use Rattle.run_steps.specs.Met.{IsTelling};
 ghost use Rattle.run_steps.specs.MetBy.{HasFaults, HasMetFault, IsEndedBy, IsEndedRound, IsMetBy, SomeHarvester, WasStopped, phase_after, phase_met, phase_reading, since_of};
 ghost use Rattle.run_steps.specs.MetIn.{NoneFailed, read_by};
 ghost use Rattle.run_steps.specs.Questions.{AsksOn, questions_of};
@@ -116,6 +117,8 @@ where
     ensures met { IfErr result (λ met. IsEndedBy (tails_of F.Tail.Tail) (disks_of D.Disk)
         context.entry.settings.now.output.attempts faulty
         (since_of F.Folder storing.old system.old (crewing crew.new storing.new) system.new) met) }
+    // A report is told only where no file met a fault before.
+    ensures none_failed { IfErr result (λ met. IsTelling met → faulty ≡ false) }
     // What ends the run is no file's fault alone.
     ensures ended { IfErr result (IsEndedRound (tails_of F.Tail.Tail) (disks_of D.Disk)
         context.entry.settings.now.output.attempts
@@ -172,6 +175,8 @@ where
         result }
     ensures stopped { result ≡ Stopped →
         Rose (B.rings system.old.bell.now) (B.rings system.new.bell.now) }
+    // A report is told only where no file met a fault before.
+    ensures none_failed { IsTelling result → faulty ≡ false }
     // What ends the run is no file's fault alone.
     ensures ended { WasStopped (B.rings system.old.bell.now) (B.rings system.new.bell.now) result
         ⊎ IsEndedRound (tails_of F.Tail.Tail) (disks_of D.Disk)
@@ -220,6 +225,8 @@ where
         result }
     ensures stopped { result ≡ Stopped →
         Rose (B.rings system.old.bell.now) (B.rings system.new.bell.now) }
+    // A report is told only where no file met a fault before.
+    ensures none_failed { IsTelling result → faulty ≡ false }
     // What ends the run is no file's fault alone.
     ensures ended { WasStopped (B.rings system.old.bell.now) (B.rings system.new.bell.now) result
         ⊎ IsEndedRound (tails_of F.Tail.Tail) (disks_of D.Disk)

@@ -1,4 +1,4 @@
-ghost use Rattle.std.specs.Prelude.{◌≡◌, ◌⊎◌, ◌+◌, ◌-◌, ◌^◌, ◌<◌, ◌≤◌, ℕ, IfErr, IfOk, List, Option, Result, Some, false, length, vec_capacity, vec_len};
+ghost use Rattle.std.specs.Prelude.{◌≡◌, ◌⊎◌, ◌+◌, ◌-◌, ◌^◌, ◌<◌, ◌≤◌, ℕ, IfOk, List, Option, Result, Some, false, length, vec_capacity, vec_len};
 ghost use Rattle.keeper.specs.Collecting.{Collects};
 ghost use Rattle.outside.specs.Counts.{Rose};
 ghost use Rattle.outside.specs.Folders.{Event};
@@ -24,10 +24,11 @@ ghost use Rattle.run_steps.specs.RunState.{Phase, within};
 ghost use Rattle.run_steps.specs.SoFar.{SoFar};
 ghost use Rattle.run_steps.specs.Stands.{Stands};
 ghost use Rattle.rounds.specs.WordsOf.{disks_of, links_of, tails_of, wires_of, words_of};
-ghost use Rattle.run_steps.specs.Worked.{HasPassed, IsBegunWith, IsFollowedBy, IsWorkedBy, NeverFall, phase_begun, phase_worked};
+ghost use Rattle.run_steps.specs.Worked.{AreAllBegun, HasPassed, IsBegunWith, IsFollowedBy, IsWorkedBy, NeverFall, phase_begun, phase_worked};
 ghost use Rattle.run_steps.specs.declared.met.Met.TheVariants.{Stopped};
 
 use crate::begin_error::BeginError;
+use crate::beginning::BegunFiles;
 use crate::context::{Context, Surroundings, System};
 use crate::leave::{close_all, end_crew};
 use crate::met::Met;
@@ -48,7 +49,7 @@ pub struct Worked {
 }
 
 /// Rounds until one ends the run, and the last steps; then all files, lanes and workers are let go, and the wires are back in their
-/// order. What was met as files were begun ends the run before a round; a fault of a file in a round ends it once the others are read. Takes as long as the files, the peers and the disk do.
+/// order. What ended the beginning of files ends the run before a round; a fault of a file ends it once the others are read. Takes as long as the files, the peers and the disk do.
 pub fn work<
     X: Threads + Wait + Sync,
     F: Folder,
@@ -60,7 +61,7 @@ pub fn work<
 >(
     rt: &X,
     context: Context<'_, '_>,
-    begun: Result<Vec<Passing>, BeginError>,
+    begun: Result<BegunFiles, BeginError>,
     mut crew: Crew<F::Tail, W, L>,
     storing: &mut Storing<'_, D>,
     around: &mut Surroundings<F, W, K, B>,
@@ -92,8 +93,8 @@ where
         ≡ length crew.carriers.items + length around.old.wires.now.items }
     ensures clock_goes_on { MomentsGoOn (K.moments around.old.clock.now)
         (K.moments around.new.clock.now) }
-    // A report is told only where all files were begun.
-    ensures told_only_where_begun { IfErr begun (λ _. ¬ (IsTelling result.met)) }
+    // A report is told only where no file failed as it was begun.
+    ensures told_only_where_begun { IsTelling result.met → AreAllBegun begun }
     ensures is_open { AreLeft result.met → storing.new.keeper.now.store.closed ≡ false }
     ensures passed { HasPassed begun result.passed.items }
     ensures cause { IsBegunWith begun result.met ⊎ IsWorkedBy crew
@@ -148,7 +149,7 @@ pub fn follow_begun<
 >(
     rt: &R,
     context: Context<'_, '_>,
-    begun: Result<Vec<Passing>, BeginError>,
+    begun: Result<BegunFiles, BeginError>,
     crew: &mut Crew<F::Tail, W, L>,
     storing: &mut Storing<'_, D>,
     system: &mut System<'_, '_, '_, F, K, B>,
@@ -168,14 +169,15 @@ where
         begun result.met }
     ensures stopped { IfOk begun (λ _. result.met ≡ Stopped →
         Rose (B.rings system.old.bell.now) (B.rings system.new.bell.now)) }
+    ensures told_only_where_begun { IsTelling result.met → AreAllBegun begun }
     ensures asks { AsksOn 1
         (questions_of K.Clock B.Bell system.old.clock.now system.old.bell.now)
         (questions_of K.Clock B.Bell system.new.clock.now system.new.bell.now) }
 {
     match begun {
-        Ok(passed) => Worked {
-            passed,
-            met: store_and_follow(rt, context, false, crew, storing, system),
+        Ok(files) => Worked {
+            passed: files.passed,
+            met: store_and_follow(rt, context, files.faulty, crew, storing, system),
         },
         Err(error) => Worked {
             passed: Vec::new(context.alloc),

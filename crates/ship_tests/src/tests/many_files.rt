@@ -1,7 +1,7 @@
 //! Several inputs, files, lanes and workers.
 
 use crate::tests::wanted::{Case, Sent, Wanted, check, check_each};
-use crate::tests::world::{Later, Object, PLAIN, Start};
+use crate::tests::world::{Later, NATIVE, Object, PLAIN, Start};
 use std::test::Fail;
 
 const TWO_INPUTS: &str = r#"
@@ -92,8 +92,9 @@ status 0 done
     },
 };
 
+/// It has no row, and the others are shipped.
 const UNOPENED: Case = Case {
-    name: "the second file is not opened",
+    name: "the second of three files cannot be opened",
     start: Start {
         files: &[
             ("/w/c.log", b"d\n", &[]),
@@ -105,10 +106,67 @@ const UNOPENED: Case = Case {
     },
     wanted: Wanted {
         status: 6,
-        rows: Some("file \"filestream::w::path::/w/a.log\" 0 0 \"/w/a.log\"\n"),
+        rows: Some(
+            r#"file "filestream::w::path::/w/a.log" 0 4 "/w/a.log"
+file "filestream::w::path::/w/c.log" 0 2 "/w/c.log"
+"#,
+        ),
+        printed: "status 6 folder fault\n",
+        sent: Sent::Events(3),
+        moment: Some(0),
+    },
+};
+
+/// The bell rings before the first round.
+const UNOPENED_AND_STOPPED: Case = Case {
+    name: "a file cannot be opened, and then the run is stopped",
+    start: Start {
+        quiet: 0,
+        failing: &[(Object::Folder, 1)],
+        ..PLAIN
+    },
+    wanted: Wanted {
+        status: 6,
+        rows: Some(""),
         printed: "status 6 folder fault\n",
         sent: Sent::Events(0),
         moment: Some(0),
+    },
+};
+
+/// The second file is another than the listed one, and has no numbers.
+const UNNUMBERED: Case = Case {
+    name: "a file without numbers takes the path of a listed one",
+    start: Start {
+        files: &[
+            ("/w/a.log", b"a\nb\n", &[]),
+            ("/w/b.log", b"c\n", &[Later::Removed(1)]),
+            ("/w/b", b"d\n", &[Later::Renamed(1, "/w/b.log")]),
+        ],
+        numbers: &[(7, 1), (8, 1)],
+        ..NATIVE
+    },
+    wanted: Wanted {
+        status: 11,
+        rows: Some("file \"filestream::w::native::7-1\" 0 0 \"/w/a.log\"\n"),
+        printed: "status 11 no native numbers \"/w/b.log\"\n",
+        sent: Sent::Events(0),
+        moment: Some(0),
+    },
+};
+
+/// The first is not opened, and that goes first.
+const UNOPENED_AND_UNNUMBERED: Case = Case {
+    name: "a file cannot be opened, and then one has no numbers",
+    start: Start {
+        failing: &[(Object::Folder, 1)],
+        ..UNNUMBERED.start
+    },
+    wanted: Wanted {
+        status: 6,
+        rows: Some(""),
+        printed: "status 6 folder fault\n",
+        ..UNNUMBERED.wanted
     },
 };
 
@@ -225,6 +283,9 @@ const CASES: &[Case] = &[
     TWO_INPUTS_WITH_THREE_FILES,
     COVERED_AND_GONE,
     UNOPENED,
+    UNOPENED_AND_STOPPED,
+    UNNUMBERED,
+    UNOPENED_AND_UNNUMBERED,
     UNREAD,
     READ_IN_PART,
     UNREAD_AND_STOPPED,

@@ -1,7 +1,7 @@
 //! Worked runs over what an earlier run left, by their names.
 
 use crate::tests::wanted::{Sent, Wanted, check_left, check_number, check_text};
-use crate::tests::world::{FINGERPRINT, NATIVE, Object, PLAIN, Peer, Ran, Start, run, run_over};
+use crate::tests::world::{FINGERPRINT, Later, NATIVE, Object, PLAIN, Peer, Ran, Start, run, run_over};
 use std::process::Abort;
 use std::sync::Wait;
 use std::test::Fail;
@@ -162,6 +162,69 @@ const RENAMED_BY_FINGERPRINT: Restart = Restart {
     },
 };
 
+/// It cannot be opened again, and keeps its row; the other file is shipped, and the row of the removed one goes.
+const ROW_OF_UNOPENED_FILE_STAYS: Restart = Restart {
+    name: "row_of_unopened_file_stays",
+    first: Start {
+        files: &[
+            ("/w/a.log", b"a\nb\n", &[]),
+            ("/w/b.log", b"c\n", &[]),
+            ("/w/c.log", b"d\n", &[]),
+        ],
+        ..PLAIN
+    },
+    second: Start {
+        files: &[
+            ("/w/a.log", b"a\nb\ne\n", &[]),
+            ("/w/b.log", b"c\nf\n", &[]),
+        ],
+        failing: &[(Object::Folder, 1)],
+        ..PLAIN
+    },
+    wanted: Wanted {
+        status: 6,
+        rows: Some(
+            "file \"filestream::w::path::/w/a.log\" 0 4 \"/w/a.log\"\nfile \"filestream::w::path::/w/b.log\" 0 4 \"/w/b.log\"\n",
+        ),
+        printed: "status 6 folder fault\n",
+        sent: Sent::Events(1),
+        ..NOTHING_MORE
+    },
+};
+
+/// That of the file in `FINGERPRINT`.
+const LONG_LINE: &[u8] = b"abcdefghbcdefghicdefghijdefghijkefghijklfghijklmghijklmnhijklmnoijklmnopjklmnopqklmnopqrlmnopqrsmnopqrstnopqrstu\n";
+
+const OTHER_LINE: &[u8] = b"the second file, of which the first hundred and twelve bytes are this one line, and then come those of the next.\n";
+
+/// The scan takes its fingerprint by one read. Behind that it is cut and written anew, so the second asking needs two reads, of which the
+/// last fails.
+const FAULT_AS_ITS_KEY_IS_ASKED_AGAIN: Restart = Restart {
+    name: "fault_as_its_key_is_asked_again",
+    first: FINGERPRINT,
+    second: Start {
+        files: &[
+            (
+                "/w/a.log",
+                LONG_LINE,
+                &[Later::Cut(1), Later::Grows(1, b"a")],
+            ),
+            ("/w/b.log", OTHER_LINE, &[]),
+        ],
+        failing: &[(Object::Tail, 1)],
+        ..FINGERPRINT
+    },
+    wanted: Wanted {
+        status: 6,
+        rows: Some(
+            "file \"filestream::w::fingerprint::4acacbb8da55b66a38e40910d7b15b522c079cb9bee9ef177e2396de38a3211d\" 0 113 \"/w/b.log\"\nfile \"filestream::w::fingerprint::cf5b16a778af8380036ce59e7b0492370b249b11e8f07a51afac45037afee9d1\" 0 113 \"/w/a.log\"\n",
+        ),
+        printed: "status 6 folder fault\n",
+        sent: Sent::Events(1),
+        ..NOTHING_MORE
+    },
+};
+
 const UNREACHABLE_BEFORE: Restart = Restart {
     name: "unreachable_before",
     first: Start {
@@ -203,6 +266,8 @@ const RESTARTS: &[Restart] = &[
     ROW_OF_NO_INPUT_STAYS,
     RENAMED_FILE,
     RENAMED_BY_FINGERPRINT,
+    ROW_OF_UNOPENED_FILE_STAYS,
+    FAULT_AS_ITS_KEY_IS_ASKED_AGAIN,
     UNREACHABLE_BEFORE,
     PARTLY_ACKNOWLEDGED_BEFORE,
 ];

@@ -1,5 +1,6 @@
 use Rattle.std.proofs.Common.{List, refl, subst}
 use Rattle.run_steps.specs.Beginning.{beginning}
+use Rattle.run_steps.specs.BeginsAll.{came_of}
 use Rattle.run_steps.specs.Telling.{TellMoments, TellSomeMoments}
 use Rattle.rounds.specs.WordsOf.{tails_of}
 use Rattle.wire_base.specs.declared.row.Row.{Row}
@@ -13,10 +14,10 @@ returns-in_err-tell_moments-clause-ended g c =
     (beginning g.F.Folder c.args.folder.now c.args.crew.now c.args.keeper.now)
     (beginning g.F.Folder c.begin_files.new.folder c.begin_files.new.crew c.begin_files.new.keeper)
     (beginning g.F.Folder c.begin_files.new.folder c.begin_files.new.crew c.tell_moments.new.keeper)
-    c.from_residual-in_err-tell_moments.result c.in_ok-passed.passed.items c.as_slice.result.now c.from_residual-in_err-tell_moments.ensures.1 c.as_slice.ensures.value
-    c.in_ok-passed.ensures.begun (subst (λ (l : List Row). TellSomeMoments l c.as_slice.result.now c.begin_files.new.keeper c.tell_moments.new.keeper) (rows_kept (tails_of g.F.Tail.Tail) c.args.context.settings.now c.args.keeper.now.store.rows c.args.scanned.now.now c.args.scanned.now.listed.items
-    c.in_ok-passed.passed.items (beginning g.F.Folder c.args.folder.now c.args.crew.now c.args.keeper.now)
-    (beginning g.F.Folder c.begin_files.new.folder c.begin_files.new.crew c.begin_files.new.keeper) c.in_ok-passed.ensures.begun) c.in_err-tell_moments.ensures.some_told) refl
+    c.from_residual-in_err-tell_moments.result (came_of c.in_ok-begun.begun) c.as_slice.result.now c.from_residual-in_err-tell_moments.ensures.1 c.as_slice.ensures.value
+    c.in_ok-begun.ensures.begun (subst (λ (l : List Row). TellSomeMoments l c.as_slice.result.now c.begin_files.new.keeper c.tell_moments.new.keeper) (rows_kept (tails_of g.F.Tail.Tail) c.args.context.settings.now c.args.keeper.now.store.rows c.args.scanned.now.now c.args.scanned.now.listed.items
+    (came_of c.in_ok-begun.begun) (beginning g.F.Folder c.args.folder.now c.args.crew.now c.args.keeper.now)
+    (beginning g.F.Folder c.begin_files.new.folder c.begin_files.new.crew c.begin_files.new.keeper) c.in_ok-begun.ensures.begun) c.in_err-tell_moments.ensures.some_told) refl
 
 pub returns-clause-begun : goal.returns-clause-begun
 returns-clause-begun g c =
@@ -24,16 +25,16 @@ returns-clause-begun g c =
     (beginning g.F.Folder c.args.folder.now c.args.crew.now c.args.keeper.now)
     (beginning g.F.Folder c.begin_files.new.folder c.begin_files.new.crew c.begin_files.new.keeper)
     (beginning g.F.Folder c.begin_files.new.folder c.begin_files.new.crew c.tell_moments.new.keeper)
-    c.in_ok-passed.passed.items c.as_slice.result.now c.as_slice.ensures.value c.in_ok-passed.ensures.begun (subst (λ (l : List Row). TellMoments l 0 c.as_slice.result.now c.begin_files.new.keeper c.tell_moments.new.keeper) (rows_kept (tails_of g.F.Tail.Tail) c.args.context.settings.now c.args.keeper.now.store.rows c.args.scanned.now.now c.args.scanned.now.listed.items
-    c.in_ok-passed.passed.items (beginning g.F.Folder c.args.folder.now c.args.crew.now c.args.keeper.now)
-    (beginning g.F.Folder c.begin_files.new.folder c.begin_files.new.crew c.begin_files.new.keeper) c.in_ok-passed.ensures.begun) c.in_ok-tell_moments.ensures.told) refl
+    (came_of c.in_ok-begun.begun) c.as_slice.result.now c.as_slice.ensures.value c.in_ok-begun.ensures.begun (subst (λ (l : List Row). TellMoments l 0 c.as_slice.result.now c.begin_files.new.keeper c.tell_moments.new.keeper) (rows_kept (tails_of g.F.Tail.Tail) c.args.context.settings.now c.args.keeper.now.store.rows c.args.scanned.now.now c.args.scanned.now.listed.items
+    (came_of c.in_ok-begun.begun) (beginning g.F.Folder c.args.folder.now c.args.crew.now c.args.keeper.now)
+    (beginning g.F.Folder c.begin_files.new.folder c.begin_files.new.crew c.begin_files.new.keeper) c.in_ok-begun.ensures.begun) c.in_ok-tell_moments.ensures.told) refl
 
-pub returns-in_err-passed-clause-kept : goal.returns-in_err-passed-clause-kept
-returns-in_err-passed-clause-kept g c =
+pub returns-in_err-begun-clause-kept : goal.returns-in_err-begun-clause-kept
+returns-in_err-begun-clause-kept g c =
     files_keep (tails_of g.F.Tail.Tail) c.args.context.settings.now c.args.keeper.now.store.rows c.args.scanned.now.now c.args.scanned.now.listed.items
     (beginning g.F.Folder c.args.folder.now c.args.crew.now c.args.keeper.now)
     (beginning g.F.Folder c.begin_files.new.folder c.begin_files.new.crew c.begin_files.new.keeper)
-    c.in_err-passed.field-0.0 c.in_err-passed.ensures.ended
+    c.in_err-begun.field-0.0 c.in_err-begun.ensures.ended
 
 pub returns-in_err-tell_moments-clause-kept : goal.returns-in_err-tell_moments-clause-kept
 returns-in_err-tell_moments-clause-kept g c =
@@ -41,29 +42,29 @@ returns-in_err-tell_moments-clause-kept g c =
     (beginning g.F.Folder c.args.folder.now c.args.crew.now c.args.keeper.now)
     (beginning g.F.Folder c.begin_files.new.folder c.begin_files.new.crew c.begin_files.new.keeper)
     (beginning g.F.Folder c.begin_files.new.folder c.begin_files.new.crew c.tell_moments.new.keeper)
-    c.in_ok-passed.passed.items c.as_slice.result.now c.as_slice.ensures.value c.in_ok-passed.ensures.begun (subst (λ (l : List Row). TellSomeMoments l c.as_slice.result.now c.begin_files.new.keeper c.tell_moments.new.keeper) (rows_kept (tails_of g.F.Tail.Tail) c.args.context.settings.now c.args.keeper.now.store.rows c.args.scanned.now.now c.args.scanned.now.listed.items
-    c.in_ok-passed.passed.items (beginning g.F.Folder c.args.folder.now c.args.crew.now c.args.keeper.now)
-    (beginning g.F.Folder c.begin_files.new.folder c.begin_files.new.crew c.begin_files.new.keeper) c.in_ok-passed.ensures.begun) c.in_err-tell_moments.ensures.some_told) refl
+    (came_of c.in_ok-begun.begun) c.as_slice.result.now c.as_slice.ensures.value c.in_ok-begun.ensures.begun (subst (λ (l : List Row). TellSomeMoments l c.as_slice.result.now c.begin_files.new.keeper c.tell_moments.new.keeper) (rows_kept (tails_of g.F.Tail.Tail) c.args.context.settings.now c.args.keeper.now.store.rows c.args.scanned.now.now c.args.scanned.now.listed.items
+    (came_of c.in_ok-begun.begun) (beginning g.F.Folder c.args.folder.now c.args.crew.now c.args.keeper.now)
+    (beginning g.F.Folder c.begin_files.new.folder c.begin_files.new.crew c.begin_files.new.keeper) c.in_ok-begun.ensures.begun) c.in_err-tell_moments.ensures.some_told) refl
 
 pub returns-clause-kept : goal.returns-clause-kept
 returns-clause-kept g c =
     all_keep (tails_of g.F.Tail.Tail) c.args.context.settings.now c.args.keeper.now.store.rows c.args.scanned.now.now c.args.scanned.now.listed.items
     (beginning g.F.Folder c.args.folder.now c.args.crew.now c.args.keeper.now)
     (beginning g.F.Folder c.begin_files.new.folder c.begin_files.new.crew c.tell_moments.new.keeper)
-    c.in_ok-passed.passed.items (all_so (tails_of g.F.Tail.Tail) c.args.context.settings.now c.args.keeper.now.store.rows c.args.scanned.now.now c.args.scanned.now.listed.items
+    (came_of c.in_ok-begun.begun) (all_so (tails_of g.F.Tail.Tail) c.args.context.settings.now c.args.keeper.now.store.rows c.args.scanned.now.now c.args.scanned.now.listed.items
     (beginning g.F.Folder c.args.folder.now c.args.crew.now c.args.keeper.now)
     (beginning g.F.Folder c.begin_files.new.folder c.begin_files.new.crew c.begin_files.new.keeper)
     (beginning g.F.Folder c.begin_files.new.folder c.begin_files.new.crew c.tell_moments.new.keeper)
-    c.in_ok-passed.passed.items c.as_slice.result.now c.as_slice.ensures.value c.in_ok-passed.ensures.begun (subst (λ (l : List Row). TellMoments l 0 c.as_slice.result.now c.begin_files.new.keeper c.tell_moments.new.keeper) (rows_kept (tails_of g.F.Tail.Tail) c.args.context.settings.now c.args.keeper.now.store.rows c.args.scanned.now.now c.args.scanned.now.listed.items
-    c.in_ok-passed.passed.items (beginning g.F.Folder c.args.folder.now c.args.crew.now c.args.keeper.now)
-    (beginning g.F.Folder c.begin_files.new.folder c.begin_files.new.crew c.begin_files.new.keeper) c.in_ok-passed.ensures.begun) c.in_ok-tell_moments.ensures.told) refl)
+    (came_of c.in_ok-begun.begun) c.as_slice.result.now c.as_slice.ensures.value c.in_ok-begun.ensures.begun (subst (λ (l : List Row). TellMoments l 0 c.as_slice.result.now c.begin_files.new.keeper c.tell_moments.new.keeper) (rows_kept (tails_of g.F.Tail.Tail) c.args.context.settings.now c.args.keeper.now.store.rows c.args.scanned.now.now c.args.scanned.now.listed.items
+    (came_of c.in_ok-begun.begun) (beginning g.F.Folder c.args.folder.now c.args.crew.now c.args.keeper.now)
+    (beginning g.F.Folder c.begin_files.new.folder c.begin_files.new.crew c.begin_files.new.keeper) c.in_ok-begun.ensures.begun) c.in_ok-tell_moments.ensures.told) refl)
 
-pub returns-in_err-passed-clause-ends : goal.returns-in_err-passed-clause-ends
-returns-in_err-passed-clause-ends g c =
+pub returns-in_err-begun-clause-ends : goal.returns-in_err-begun-clause-ends
+returns-in_err-begun-clause-ends g c =
     files_end (tails_of g.F.Tail.Tail) c.args.context.settings.now c.args.keeper.now.store.rows c.args.scanned.now.now c.args.scanned.now.listed.items
     (beginning g.F.Folder c.args.folder.now c.args.crew.now c.args.keeper.now)
     (beginning g.F.Folder c.begin_files.new.folder c.begin_files.new.crew c.begin_files.new.keeper)
-    c.from_residual.result c.in_err-passed.field-0.0 c.from_residual.ensures.1 c.in_err-passed.ensures.ended
+    c.from_residual.result c.in_err-begun.field-0.0 c.from_residual.ensures.1 c.in_err-begun.ensures.ended
 
 pub returns-in_err-tell_moments-clause-ends : goal.returns-in_err-tell_moments-clause-ends
 returns-in_err-tell_moments-clause-ends g c =
@@ -72,12 +73,12 @@ returns-in_err-tell_moments-clause-ends g c =
     (beginning g.F.Folder c.begin_files.new.folder c.begin_files.new.crew c.tell_moments.new.keeper)
     c.from_residual-in_err-tell_moments.result c.from_residual-in_err-tell_moments.ensures.1
 
-pub returns-in_err-passed-clause-unnumbered : goal.returns-in_err-passed-clause-unnumbered
-returns-in_err-passed-clause-unnumbered g c =
+pub returns-in_err-begun-clause-unnumbered : goal.returns-in_err-begun-clause-unnumbered
+returns-in_err-begun-clause-unnumbered g c =
     begun_unnumbered (tails_of g.F.Tail.Tail) c.args.context.settings.now c.args.keeper.now.store.rows c.args.scanned.now.now c.args.scanned.now.listed.items
     (beginning g.F.Folder c.args.folder.now c.args.crew.now c.args.keeper.now)
     (beginning g.F.Folder c.begin_files.new.folder c.begin_files.new.crew c.begin_files.new.keeper)
-    c.from_residual.result c.in_err-passed.field-0.0 c.from_residual.ensures.1 c.in_err-passed.ensures.ended
+    c.from_residual.result c.in_err-begun.field-0.0 c.from_residual.ensures.1 c.in_err-begun.ensures.ended
 
 pub returns-in_err-tell_moments-clause-unnumbered : goal.returns-in_err-tell_moments-clause-unnumbered
 returns-in_err-tell_moments-clause-unnumbered g c =

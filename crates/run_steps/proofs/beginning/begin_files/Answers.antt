@@ -1,7 +1,7 @@
 use Rattle.std.proofs.Common.{length, refl, arith, subst, ◌+◌}
 use Rattle.std.proofs.lemmas.Option.{slice_get_read}
 use Rattle.run_steps.specs.Beginning.{beginning, listed_file}
-use Rattle.run_steps.specs.BeginsAll.{BeginsOrPasses, EndsInOne}
+use Rattle.run_steps.specs.BeginsAll.{BeginsOrPasses, EndsInOne, came_of}
 use Rattle.rounds.specs.WordsOf.{tails_of}
 use Rattle.run_steps.proofs.BeginningLists.{after_next, ends_as, knows_still, lanes_still}
 use Rattle.accounts.proofs.Following.{got_each}
@@ -14,14 +14,14 @@ pub returns-in_err-begin_or_pass-clause-ended : goal.returns-in_err-begin_or_pas
 returns-in_err-begin_or_pass-clause-ended g c =
     let listed = c.args.scanned.now.listed.items in
     ends_as (tails_of g.F.Tail.Tail) c.args.context.settings.now c.args.keeper.now.store.rows c.args.scanned.now.now listed c.files.slot c.index.result.now
-    (slice_get_read listed (length listed) c.files.slot c.index.result.now refl (omega (arith, c.files-test.true, c.len.ensures)) c.index.ensures) c.files.passed.items
+    (slice_get_read listed (length listed) c.files.slot c.index.result.now refl (omega (arith, c.files-test.true, c.len.ensures)) c.index.ensures) (came_of c.files.begun)
     (beginning g.F.Folder c.args.folder.now c.args.crew.now c.args.keeper.now)
     (beginning g.F.Folder c.files.folder c.files.crew c.files.keeper)
     c.files.invariant.begins c.from_residual.result c.in_err-begin_or_pass.field-0.0
     (beginning g.F.Folder c.begin_or_pass.new.folder c.begin_or_pass.new.crew c.begin_or_pass.new.keeper)
     c.from_residual.ensures.1
     (subst (λ (s : Start). EndsInOne (tails_of g.F.Tail.Tail) c.args.context.settings.now
-    (listed_file (record { 0 = c.files.slot }) c.index.result.now s c.args.scanned.now.now) c.in_err-begin_or_pass.field-0.0
+    (listed_file (record { 0 = c.files.slot }) c.index.result.now s c.args.scanned.now.now) c.files.begun.faulty c.in_err-begin_or_pass.field-0.0
     (beginning g.F.Folder c.files.folder c.files.crew c.files.keeper)
     (beginning g.F.Folder c.begin_or_pass.new.folder c.begin_or_pass.new.crew c.begin_or_pass.new.keeper))
     (start_is c.args.keeper.now.store.rows c.args.scanned.now.listed.items c.args.scanned.now.starts.items c.files.slot c.index.result.now c.index-in-files.result.now c.requires.starts
@@ -39,8 +39,8 @@ files-preserved g c =
     let new = beginning g.F.Folder c.begin_or_pass.new.folder c.begin_or_pass.new.crew c.begin_or_pass.new.keeper in
     let begun = c.in_ok-begin_or_pass.ensures.begun in
     let begins = after_next tails c.args.context.settings.now c.args.keeper.now.store.rows c.args.scanned.now.now listed c.files.slot c.index.result.now
-    (slice_get_read listed (length listed) c.files.slot c.index.result.now refl (omega (arith, c.files-test.true, c.len.ensures)) c.index.ensures) c.files.passed.items old mid c.files.invariant.begins
-    c.begin_or_pass.new.passed.items begun.0 new begun.1
+    (slice_get_read listed (length listed) c.files.slot c.index.result.now refl (omega (arith, c.files-test.true, c.len.ensures)) c.index.ensures) (came_of c.files.begun) old mid c.files.invariant.begins
+    (came_of c.begin_or_pass.new.begun) begun.0 new begun.1
     (subst (λ (s : Start). BeginsOrPasses tails c.args.context.settings.now (listed_file (record { 0 = c.files.slot }) c.index.result.now s c.args.scanned.now.now) begun.0 mid new)
     (start_is c.args.keeper.now.store.rows c.args.scanned.now.listed.items c.args.scanned.now.starts.items c.files.slot c.index.result.now c.index-in-files.result.now c.requires.starts
     (slice_get_read c.args.scanned.now.listed.items (length c.args.scanned.now.listed.items) c.files.slot c.index.result.now refl (omega (arith, c.files-test.true, c.len.ensures)) c.index.ensures)
@@ -50,8 +50,8 @@ files-preserved g c =
     record {
       within = omega (arith, c.files-test.true, c.len.ensures);
       begins = begins;
-      some_lanes = lanes_still tails c.args.context.settings.now c.args.keeper.now.store.rows c.args.scanned.now.now (c.files.slot + 1) listed c.begin_or_pass.new.passed.items old new begins c.requires.some_lanes;
-      knows = knows_still tails c.args.context.settings.now c.args.keeper.now.store.rows c.args.scanned.now.now (c.files.slot + 1) listed c.begin_or_pass.new.passed.items old new begins
+      some_lanes = lanes_still tails c.args.context.settings.now c.args.keeper.now.store.rows c.args.scanned.now.now (c.files.slot + 1) listed (came_of c.begin_or_pass.new.begun) old new begins c.requires.some_lanes;
+      knows = knows_still tails c.args.context.settings.now c.args.keeper.now.store.rows c.args.scanned.now.now (c.files.slot + 1) listed (came_of c.begin_or_pass.new.begun) old new begins
           (keys_in c.args.keeper.now.store.rows listed) (are_of_keys c.args.keeper.now.store.rows listed);
     }
 

@@ -1,6 +1,6 @@
 use Rattle.std.proofs.Common.{◌-◌, ◌≤◌, ◌<◌, length, take}
 use Rattle.run_steps.specs.Beginning.{beginning}
-use Rattle.run_steps.specs.BeginsAll.{BeginsFrom}
+use Rattle.run_steps.specs.BeginsAll.{BeginsFrom, came_of}
 use Rattle.run_steps.specs.KnownKeys.{KnowsAmong}
 use Rattle.rounds.specs.WordsOf.{tails_of}
 use Rattle.run_steps.proofs.KnownKeys.{keys_in}
@@ -10,7 +10,7 @@ abbrev pub invariant-files : goal.invariant-files
 invariant-files g l = record {
   within : l.slot ≤ length l.scanned.listed.items;
   begins : BeginsFrom (tails_of g.F.Tail.Tail) l.context.settings.now l.fn.keeper.store.rows l.scanned.now 0
-      (take l.slot l.scanned.listed.items) l.passed.items
+      (take l.slot l.scanned.listed.items) (came_of l.begun)
       (beginning g.F.Folder l.fn.folder l.fn.crew l.fn.keeper)
       (beginning g.F.Folder l.folder l.crew l.keeper);
   some_lanes : 0 < length l.crew.lanes.items;

@@ -1,14 +1,15 @@
-use Rattle.std.proofs.Common.{Result, Bool, IfErr, IfOk, None, Some, subst, sym, refl, ◌≡◌, ◌⊎◌, true}
+use Rattle.std.proofs.Common.{Result, Bool, IfErr, IfOk, None, Some, subst, sym, refl, ◌≡◌, ◌⊎◌, true, false}
 use Rattle.std.specs.Vec.{with_items}
 use Rattle.rounds.specs.Crewed.{lanings}
 use Rattle.rounds.specs.Crewing.{crewing}
 use Rattle.rounds.specs.WordsOf.{disks_of, tails_of}
 use Rattle.run_steps.specs.FolderSeen.{seen_in}
 use Rattle.run_steps.specs.Goes.{Goes, step_words, stop_at}
+use Rattle.run_steps.specs.Met.{IsTelling}
 use Rattle.run_steps.specs.MetBy.{HasMetFault, IsEndedBy, IsEndedRound, IsMetBy, phase_met, phase_reading}
 use Rattle.run_steps.specs.declared.met.Met.{Met}
 use Rattle.run_steps.proofs.Letting.{failed_in}
-use Rattle.run_steps.proofs.ReadOn.{ends_so, found_so, goes_on_so, if_some, met_so, round_so}
+use Rattle.run_steps.proofs.ReadOn.{ends_so, found_so, goes_on_so, if_some, met_so, read_untold, round_so}
 use Rattle.run_steps.proofs.reading.read_on.Goals as goal
 
 pub returns-clause-goes_on : goal.returns-clause-goes_on
@@ -92,3 +93,8 @@ returns-clause-ended g c =
     c.make_round-met.ensures.failed since (c.make_round-met.ensures.goes c.args.faulty).keeps.readers.faults_never_fall attempts a b c.make_round-met.result c.make_round-met.ensures.no_fault
     (if_some (IsMetBy (tails_of g.F.Tail.Tail) (disks_of g.D.Disk) attempts
     (record { a = a; b = b; faults = since; later_faults = g.F.Folder.faults system.folder.now; now = crewing one c.make_round-met.new.storing })) c.make_round-met.result c.make_round-met.ensures.met))
+
+pub returns-clause-none_failed : goal.returns-clause-none_failed
+returns-clause-none_failed g c =
+    subst (λ (r : Result Bool Met). IfErr r (λ met. IsTelling met → c.args.faulty ≡ false)) (sym c.goes_on.ensures)
+    (read_untold c.args.faulty c.close_failed-failed.result c.make_round-met.result)

@@ -7,7 +7,7 @@ use Rattle.run_steps.specs.Questions.{questions_of}
 use Rattle.run_steps.proofs.GoesOn.{goes_by_two}
 use Rattle.run_steps.proofs.MetBy.{ended_since, round_since}
 use Rattle.run_steps.proofs.Questions.{asks_nothing}
-use Rattle.run_steps.proofs.StoresFirst.{goes_met, goes_stored, met_by_storing, not_stopped, round_by_storing}
+use Rattle.run_steps.proofs.StoresFirst.{goes_met, goes_stored, met_by_storing, none_told, not_stopped, round_by_storing}
 use Rattle.run_steps.proofs.reading.store_and_follow.Goals as goal
 
 pub returns-in-Some-clause-goes : goal.returns-in-Some-clause-goes
@@ -50,3 +50,8 @@ returns-in-None-clause-ended g c =
     ⊎_elim (λ stopped. inl stopped)
     (λ round. inr (round_since (words_of g.F.Tail.Tail g.L.Link g.W.Wire g.D.Disk) c.args.context.settings.now.output.attempts c.args.storing.now.a.now c.args.storing.now.b.now
     since.faults since c.in-None.ensures.hands_on.a_faults_never_fall c.in-None.ensures.hands_on.b_faults_never_fall (omega arith) c.follow_all.result round)) c.follow_all.ensures.ended
+
+pub returns-in-Some-clause-none_failed : goal.returns-in-Some-clause-none_failed
+returns-in-Some-clause-none_failed g c telling =
+    absurd (none_told (step_words g.F.Folder g.F.Tail.Tail g.L.Link g.W.Wire g.D.Disk g.K.Clock g.B.Bell) c.args.context c.args.system.now c.args.crew.now c.store_all.new.crew
+    c.args.storing.now c.store_all.new.storing c.in-Some.met c.in-Some.ensures.by telling)

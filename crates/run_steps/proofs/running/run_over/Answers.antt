@@ -1,6 +1,7 @@
-use Rattle.std.proofs.Common.{List, length, Vec, Global, refl, subst, sym, ap, arith, ◌∙◌}
+use Rattle.std.proofs.Common.{◌≡◌, true, List, length, Vec, Global, refl, subst, sym, ap, arith, ◌∙◌}
 use Rattle.std.proofs.lemmas.List.Elements.{recursion_from_All}
 use Rattle.keeper.specs.Keeping.{Keeping}
+use Rattle.outside.specs.Counts.{Rose}
 use Rattle.rounds.specs.Crewed.{lanings}
 use Rattle.rounds.specs.Making.{IsBegunLane}
 use Rattle.rounds.specs.declared.carrier.Carrier.{Carrier}
@@ -15,9 +16,10 @@ use Rattle.run_steps.specs.RunEnds.{HasEnded}
 use Rattle.run_steps.specs.RunState.{Phase}
 use Rattle.run_steps.specs.Questions.{questions_of}
 use Rattle.rounds.specs.WordsOf.{links_of, tails_of, wires_of, words_of}
+use Rattle.run_steps.proofs.BeginningLists.{begun_rose}
 use Rattle.run_steps.proofs.BegunReady.{ready_begun, told_runs}
 use Rattle.run_steps.proofs.CarriersGoOn.{links_finished, open_links_seen, outcomes_go_on}
-use Rattle.run_steps.proofs.HiddenBegun.{begun_knows, errors_still, hides_tell, passed_or_none}
+use Rattle.run_steps.proofs.HiddenBegun.{begun_knows, errors_still, files_still, hides_tell, passed_or_none}
 use Rattle.run_steps.proofs.PassedOver.{passed_over}
 use Rattle.run_steps.proofs.Questions.{asks_nothing}
 use Rattle.run_steps.proofs.RunCauses.{met_by_run, no_slots}
@@ -166,7 +168,11 @@ returns-clause-cause g c =
     (kept.slots (no_slots (length c.args.scanned.now.listed.items) (lanings c.in_ok-crew.crew.lanes.items) (recursion_from_All IsBegunLane (lanings c.in_ok-crew.crew.lanes.items) begun.lanes)))
     c.hide_begun-begun.result c.work.result.met
     (errors_still (λ error. EndsBeginning (length c.args.scanned.now.listed.items) error old new) c.args.context.settings.now.inputs c.args.scanned.now.listed.items c.begin_all-begun.result c.hide_begun-begun.result c.begin_all-begun.new.keeper c.hide_begun-begun.new.keeper tt c.hide_begun-begun.ensures
-    c.begin_all-begun.ensures.ends) c.work.ensures.never_fall.folder_faults c.work.ensures.cause
+    c.begin_all-begun.ensures.ends)
+    (files_still (λ files. files.faulty ≡ true → Rose old.folder.faults new.folder.faults) c.args.context.settings.now.inputs c.args.scanned.now.listed.items c.begin_all-begun.result c.hide_begun-begun.result c.begin_all-begun.new.keeper
+    c.hide_begun-begun.new.keeper c.hide_begun-begun.ensures
+    (begun_rose (tails_of g.F.Tail.Tail) c.args.context.settings.now c.args.storing.now.keeper.now.store.rows c.args.scanned.now.now c.args.scanned.now.listed.items c.begin_all-begun.result old new c.begin_all-begun.ensures.begun))
+    c.work.ensures.never_fall.folder_faults c.work.ensures.cause
 
 pub returns-clause-tails_closed : goal.returns-clause-tails_closed
 returns-clause-tails_closed g c few =

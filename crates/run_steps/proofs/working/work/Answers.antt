@@ -18,7 +18,7 @@ use Rattle.run_steps.proofs.Letting.{able_closed, carriers_have_passes, lanes_ha
 use Rattle.run_steps.proofs.ReadersGo.{readers_go_by_some}
 use Rattle.run_steps.proofs.RunTails.{wires_back}
 use Rattle.run_steps.proofs.Unreached.{failed_as_met}
-use Rattle.run_steps.proofs.Whole.{all_counted, cause, done_before, done_in, finished_by, first_met, has_ended, left_still, untold_by, epochs_before, out_by}
+use Rattle.run_steps.proofs.Whole.{all_counted, cause, done_before, done_in, epochs_before, finished_by, first_met, has_ended, left_still, out_by, telling_before}
 use Rattle.run_steps.proofs.working.work.Goals as goal
 
 pub settle_after-worked-requires-clause-ready : goal.settle_after-worked-requires-clause-ready
@@ -112,21 +112,12 @@ returns-clause-ends g c start so_far same stands began =
     )
 
 pub returns-clause-told_only_where_begun : goal.returns-clause-told_only_where_begun
-returns-clause-told_only_where_begun g c =
+returns-clause-told_only_where_begun g c telling =
     let all = words_of g.F.Tail.Tail g.L.Link g.W.Wire g.D.Disk in
-    let one = c.follow_begun-worked.new.crew in
     let first = c.follow_begun-worked.new.storing in
-    let met = c.follow_begun-worked.result.met in
-    let now = c.settle_after-worked.result.met in
-    let since : Since g.row.F-Tail.Denot g.row.W.Denot g.row.L.Denot g.row.D.Denot = record {
-      a = c.args.storing.now.a.now;
-      b = c.args.storing.now.b.now;
-      faults = g.F.Folder.faults c.args.around.now.folder.now;
-      later_faults = g.F.Folder.faults c.follow_begun-worked.new.system.folder.now;
-      now = crewing one first;
-    } in
-    untold_by all.disks (record { a = first.a.now; b = first.b.now; new_a = c.settle_after-worked.new.storing.a.now; new_b = c.settle_after-worked.new.storing.b.now }) c.args.begun met now
-    (first_met all c.args.context.settings.now.output.attempts since c.args.begun met c.follow_begun-worked.ensures.met) c.settle_after-worked.ensures.last.by
+    c.follow_begun-worked.ensures.told_only_where_begun
+    (telling_before all.disks (record { a = first.a.now; b = first.b.now; new_a = c.settle_after-worked.new.storing.a.now; new_b = c.settle_after-worked.new.storing.b.now })
+    c.follow_begun-worked.result.met c.settle_after-worked.result.met c.settle_after-worked.ensures.last.by telling)
 
 pub returns-clause-open_tails : goal.returns-clause-open_tails
 returns-clause-open_tails g c =
