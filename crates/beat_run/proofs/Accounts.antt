@@ -42,7 +42,7 @@ use Rattle.told_scans.proofs.Members.{some_is}
 use Rattle.run_steps.proofs.RunRows.{OneChoice}
 use Rattle.beat_run.specs.Accounted.{HasNoRoom, IsAccounted, IsAccountedByNamed, IsFullFor, IsMetFor, IsOpenedFrom, LeavesNoRemoved, RunLent, TellRows, HasNoEpoch}
 use Rattle.beat_run.specs.Ended.{StandsForMet, StandsForRegistry}
-use Rattle.beat_run.specs.Ends.{FindsNoRoom, IsPreparingEnd, IsPrintingEnd, IsReportEnd, IsRunEnd, ShowsScanEnd, ListsTooMany}
+use Rattle.beat_run.specs.Ends.{IsPreparingEnd, IsPrintingEnd, IsReportEnd, IsRunEnd, ShowsScanEnd, ListsTooMany}
 use Rattle.beat_run.specs.EpochsLeft.{FindsNoEpoch}
 use Rattle.beat_run.specs.Printed.{IsReportOver}
 use Rattle.beat_run.specs.Scanning.{TellsScanned}
@@ -177,8 +177,8 @@ full_for_scan disks settings objects rows (Unreachable worker failures) gave sho
 full_for_scan disks settings objects rows OutFault gave shows = tt
 full_for_scan disks settings objects rows SourceFault gave shows = tt
 full_for_scan disks settings objects rows (TooMany Files path) gave shows =
-    each_some objects.before.folder (λ told. FindsNoRoom settings.inputs told rows path objects.after.folder) (λ told. HasNoRoom disks settings objects told path)
-    (λ told finds. record { rows = rows; given = gave; finds = finds }) shows
+    each_some objects.before.folder (λ told. ListsTooMany settings.inputs told rows Files path objects.after.folder) (λ told. HasNoRoom disks settings objects told path)
+    (λ told lists. record { rows = rows; given = gave; lists = lists }) shows
 full_for_scan disks settings objects rows (TooMany Epochs path) gave shows =
     each_some objects.before.folder (λ told. ListsTooMany settings.inputs told rows Epochs path objects.after.folder) (λ told. HasNoEpoch disks settings objects told path)
     (λ told lists. record { rows = rows; given = gave; finds = inl lists }) shows
@@ -314,7 +314,6 @@ module _ {D : Type 0} (disks : DiskWords D) (start : Began D) (in_range : AreInR
         };
         later = more.0;
         after_is = more.1;
-        few_listed = scans.few;
         few_known = limits.few;
         room = limits.room;
       }

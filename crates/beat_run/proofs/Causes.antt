@@ -4,7 +4,7 @@ use Rattle.std.specs.Prelude.{slice_get}
 use Rattle.event_tree.specs.declared.input_rule.InputRule.{InputRule}
 use Rattle.event_tree.specs.declared.settings.Settings.{Settings as SettingsOf}
 use Rattle.outside.specs.Folders.{Event, FolderHistory}
-use Rattle.prospect.specs.ListedFiles.{FindsNoNumbers, FindsOneMore}
+use Rattle.prospect.specs.ListedFiles.{FindsNoNumbers}
 use Rattle.prospect.specs.declared.listed.Listed.{Listed}
 use Rattle.registry_store.specs.Choice.{GivesRows, IsChoice}
 use Rattle.registry_store.specs.Settled.{AreAtRest, AreSettled}
@@ -24,7 +24,7 @@ use Rattle.wire_base.specs.declared.limits.Full.TheVariants.{Epochs, Files, Slot
 use Rattle.wire_base.specs.declared.row.Row.{Row}
 use Rattle.beat_run.specs.Cause.{AllSigns, Cause, CauseBy, HasAreaFailed, HasFailedAt, LacksNumbers, Signs, WasListed, without_sink}
 use Rattle.beat_run.specs.Ended.{StandsForMet, StandsForRegistry}
-use Rattle.beat_run.specs.Ends.{IsBehindOpening, IsBehindSettings, IsPreparingEnd, IsReportEnd, IsRunEnd, IsScanEnd, IsScannedEnd, FindsNoRoom, ListsTooMany, ShowsScanEnd}
+use Rattle.beat_run.specs.Ends.{IsBehindOpening, IsBehindSettings, IsPreparingEnd, IsReportEnd, IsRunEnd, IsScanEnd, IsScannedEnd, ListsTooMany, ShowsScanEnd}
 use Rattle.beat_run.specs.Named.{IsNamed}
 use Rattle.beat_run.specs.Scanning.{ScansParted}
 use Rattle.beat_run.proofs.PathsListed.{GoesFurther, was_listed, was_unnumbered}
@@ -169,12 +169,6 @@ path_listed : (inputs : List InputRule) (rows : List Row) (what : Full) (path : 
 path_listed inputs rows what path None after lists = tt
 path_listed inputs rows what path (Some history) after lists = path_was_listed inputs rows what path history after lists
 
-too_many : (inputs : List InputRule) (rows : List Row) (path : List ℕ) (told after : Option FolderHistory) → IfSome told (λ history. FindsNoRoom inputs history rows path after) →
-    IfSome told (λ history. FindsOneMore inputs history path after ⊎ WasListed path history after)
-too_many inputs rows path None after shows = tt
-too_many inputs rows path (Some history) after (inl more) = inl more
-too_many inputs rows path (Some history) after (inr lists) = inr (path_was_listed inputs rows Files path history after lists)
-
 pub scan_caused : (settings : SettingsOf) (rows : List Row) (before now : Signs) (status : Status) → IsScanEnd before.counts.folder_faults now.counts.folder_faults status →
     IfSome before.folder (λ history. ShowsScanEnd settings.inputs history rows now.folder status) → CauseBy settings before now status
 scan_caused settings rows before now Done ends shows = absurd ends
@@ -187,7 +181,7 @@ scan_caused settings rows before now FolderFault ends shows = ends
 scan_caused settings rows before now (Unreachable worker failures) ends shows = absurd ends
 scan_caused settings rows before now OutFault ends shows = absurd ends
 scan_caused settings rows before now SourceFault ends shows = absurd ends
-scan_caused settings rows before now (TooMany Files path) ends shows = too_many settings.inputs rows path before.folder now.folder shows
+scan_caused settings rows before now (TooMany Files path) ends shows = path_listed settings.inputs rows Files path before.folder now.folder shows
 scan_caused settings rows before now (TooMany Epochs path) ends shows = path_listed settings.inputs rows Epochs path before.folder now.folder shows
 scan_caused settings rows before now (TooMany Slots path) ends shows = absurd ends
 scan_caused settings rows before now (NoNative path) ends shows = each_finds before.folder shows

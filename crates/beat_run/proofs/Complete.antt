@@ -40,7 +40,7 @@ use Rattle.beat_run.specs.Accounted.{HasNoEpoch, HasNoRoom, IsAccountedByNamed, 
 use Rattle.beat_run.specs.Asked.{AskForOnce, IsAsked}
 use Rattle.beat_run.specs.Cause.{AllSigns, Cause, HasFailedSince, IsFailedWorker, LacksNumbers, Signs}
 use Rattle.beat_run.specs.Completeness.{EachSince, GivenRun, HasRoom, HaveNumbers, IsNotIdle, IsServed, IsUntroubled, IsUntroubledEnd, OfEachWire, PeersServe, TellsBuilt}
-use Rattle.beat_run.specs.Ends.{FindsNoRoom}
+use Rattle.beat_run.specs.Ends.{ListsTooMany}
 use Rattle.beat_run.specs.Named.{IsNamed}
 use Rattle.beat_run.specs.Printed.{StandsBehind}
 use Rattle.beat_run.specs.declared.settings.TheConstants.{LIMIT}
@@ -266,11 +266,8 @@ few_or_full rows listed path few first =
     omega (arith, few, full.1, more)
 
 module _ {D : Type 0} (disks : DiskWords D) (a b : D) (inputs : List InputRule) (before after : Option FolderHistory) (room : HasRoom disks a b inputs before after) where
-  finds_room : (rows : List Row) (path : List ℕ) → GiveTheRows disks a b rows → FindsNoRoom inputs room.told rows path after → ⊥
-  finds_room rows path given (inl finds) =
-      let few = room.few_listed finds.listings (finds.one_more.before ++ finds.one_more.next ∷ []) finds.listed_is finds.one_more.only finds.one_more.in_order finds.one_more.apart in
-      omega (arith, few, finds.one_more.full, length-append finds.one_more.before (finds.one_more.next ∷ []))
-  finds_room rows path given (inr lists) = few_or_full rows lists.files path (room.few_known rows lists.files lists.doubled given lists.scans) lists.first
+  finds_room : (rows : List Row) (path : List ℕ) → GiveTheRows disks a b rows → ListsTooMany inputs room.told rows Files path after → ⊥
+  finds_room rows path given lists = few_or_full rows lists.files path (room.few_known rows lists.files lists.doubled given lists.scans) lists.first
 
 -- ---- the run
 
@@ -320,7 +317,7 @@ module _ {F W D : Type 0} (disks : DiskWords D) (run : ShownRun F W D) (one : On
       let room = subst (λ (i : List InputRule). HasRoom disks run.given.a run.given.b i run.before.signs.folder run.now.signs.folder) (inputs_too by.settings (by.named tt)) untroubled.room in
       let objects : RunObjects D = record { before = objects_by run.given.a run.given.b run.before.signs; after = objects_by run.a run.b run.now.signs } in
       let full = at_some run.before.signs.folder room.told (λ told. HasNoRoom disks by.settings objects told path) room.told_is by.is.full_for in
-      finds_room disks run.given.a run.given.b by.settings.inputs run.before.signs.folder run.now.signs.folder room full.rows path full.given full.finds
+      finds_room disks run.given.a run.given.b by.settings.inputs run.before.signs.folder run.now.signs.folder room full.rows path full.given full.lists
 
   epochs_for_files : (path : List ℕ) → EndsWith disks run (TooMany Epochs path) → ⊥
   epochs_for_files path ends =

@@ -106,8 +106,7 @@ module _ (settings : SettingsOf) (in_range : AreInRange settings) (told : Folder
   scanned_some rows after (Unreachable worker failures) shows = absurd shows
   scanned_some rows after OutFault shows = absurd shows
   scanned_some rows after SourceFault shows = absurd shows
-  scanned_some rows after (TooMany Files path) (inl finds) = all_listings_alone finds.listings after finds.listed_is
-  scanned_some rows after (TooMany Files path) (inr lists) = scanned_whole lists.files lists.doubled after lists.scans
+  scanned_some rows after (TooMany Files path) lists = scanned_whole lists.files lists.doubled after lists.scans
   scanned_some rows after (TooMany Epochs path) lists = scanned_whole lists.files lists.doubled after lists.scans
   scanned_some rows after (TooMany Slots path) shows = absurd shows
   scanned_some rows after (NoNative path) finds = all_listings_alone finds.listings after finds.listed_is
@@ -122,7 +121,6 @@ listing_shows_one : (inputs : List InputRule) (told : FolderHistory) (rows : Lis
 listing_shows_one inputs told rows after scan_error.Failed status stands ends = subst (ShowsScanEnd inputs told rows after) (sym stands) (inl ends)
 listing_shows_one inputs told rows after scan_error.NoMemory status stands ends = subst (ShowsScanEnd inputs told rows after) (sym stands) (inl ends)
 listing_shows_one inputs told rows after (scan_error.NoNative path) status stands ends = subst (ShowsScanEnd inputs told rows after) (sym stands) ends
-listing_shows_one inputs told rows after (scan_error.TooMany path) status stands ends = subst (ShowsScanEnd inputs told rows after) (sym stands) (inl ends)
 
 pub listing_shows : (inputs : List InputRule) (rows : List Row) (before after : Option FolderHistory) (error : ScanError) (status : Status) → StandsForScan error status → IfSome before (λ told. EndsAs inputs told error after) →
     IfSome before (λ told. ShowsScanEnd inputs told rows after status)
@@ -201,42 +199,41 @@ module _ (inputs : List InputRule) (told : FolderHistory) (listed : List Listed)
   }
 
   -- files that were parted, and could not all be started
-  start_shows : (rows : List Row) (files doubled : List Listed) → PartsDoubled keyed.files.items files doubled → length listed ≤ 65_536 → (status : Status) → IsStartEnd rows files status → ShowsScanEnd inputs told rows after status
-  start_shows rows files doubled parts few Done ends = absurd ends
-  start_shows rows files doubled parts few Stopped ends = absurd ends
-  start_shows rows files doubled parts few Usage ends = absurd ends
-  start_shows rows files doubled parts few (Settings fault) ends = absurd ends
-  start_shows rows files doubled parts few (RegistryBad area at) ends = absurd ends
-  start_shows rows files doubled parts few DiskFault ends = absurd ends
-  start_shows rows files doubled parts few FolderFault ends = absurd ends
-  start_shows rows files doubled parts few (Unreachable worker failures) ends = absurd ends
-  start_shows rows files doubled parts few OutFault ends = absurd ends
-  start_shows rows files doubled parts few SourceFault ends = absurd ends
-  start_shows rows files doubled parts few (TooMany Files path) ends = inr (record { files = files; doubled = doubled; scans = parts_asked files doubled parts; few = few; first = ends })
-  start_shows rows files doubled parts few (TooMany Epochs path) ends = record { files = files; doubled = doubled; scans = parts_asked files doubled parts; few = few; first = ends }
-  start_shows rows files doubled parts few (TooMany Slots path) ends = absurd ends
-  start_shows rows files doubled parts few (NoNative path) ends = absurd ends
-  start_shows rows files doubled parts few NoMemory ends = inr nothing_more
-  start_shows rows files doubled parts few (Unbuilt what) ends = absurd ends
+  start_shows : (rows : List Row) (files doubled : List Listed) → PartsDoubled keyed.files.items files doubled → (status : Status) → IsStartEnd rows files status → ShowsScanEnd inputs told rows after status
+  start_shows rows files doubled parts Done ends = absurd ends
+  start_shows rows files doubled parts Stopped ends = absurd ends
+  start_shows rows files doubled parts Usage ends = absurd ends
+  start_shows rows files doubled parts (Settings fault) ends = absurd ends
+  start_shows rows files doubled parts (RegistryBad area at) ends = absurd ends
+  start_shows rows files doubled parts DiskFault ends = absurd ends
+  start_shows rows files doubled parts FolderFault ends = absurd ends
+  start_shows rows files doubled parts (Unreachable worker failures) ends = absurd ends
+  start_shows rows files doubled parts OutFault ends = absurd ends
+  start_shows rows files doubled parts SourceFault ends = absurd ends
+  start_shows rows files doubled parts (TooMany Files path) ends = record { files = files; doubled = doubled; scans = parts_asked files doubled parts; first = ends }
+  start_shows rows files doubled parts (TooMany Epochs path) ends = record { files = files; doubled = doubled; scans = parts_asked files doubled parts; first = ends }
+  start_shows rows files doubled parts (TooMany Slots path) ends = absurd ends
+  start_shows rows files doubled parts (NoNative path) ends = absurd ends
+  start_shows rows files doubled parts NoMemory ends = inr nothing_more
+  start_shows rows files doubled parts (Unbuilt what) ends = absurd ends
 
   -- or could not be parted
-  parted_shows_one : (rows : List Row) → length listed ≤ 65_536 → (status : Status) → IsPartedEnd rows keyed.files.items status → ShowsScanEnd inputs told rows after status
-  parted_shows_one rows few status (inl memory) = subst (ShowsScanEnd inputs told rows after) (sym memory) (inr nothing_more)
-  parted_shows_one rows few status (inr end) = start_shows rows end.files end.doubled end.parts few status end.ends
+  parted_shows_one : (rows : List Row) → (status : Status) → IsPartedEnd rows keyed.files.items status → ShowsScanEnd inputs told rows after status
+  parted_shows_one rows status (inl memory) = subst (ShowsScanEnd inputs told rows after) (sym memory) (inr nothing_more)
+  parted_shows_one rows status (inr end) = start_shows rows end.files end.doubled end.parts status end.ends
 
-  tells_scanned : length listed ≤ 65_536 → (scanned : Scanned) → PartsDoubled keyed.files.items scanned.listed.items scanned.doubled.items → scanned.gone ≡ keyed.gone → scanned.small ≡ keyed.small → TellsScanned inputs told scanned after
-  tells_scanned few scanned parts gone small = record {
+  tells_scanned : (scanned : Scanned) → PartsDoubled keyed.files.items scanned.listed.items scanned.doubled.items → scanned.gone ≡ keyed.gone → scanned.small ≡ keyed.small → TellsScanned inputs told scanned after
+  tells_scanned scanned parts gone small = record {
     parted = parts_asked scanned.listed.items scanned.doubled.items parts;
-    few = few;
     gone = ap (λ v. v.items) gone ∙ has.asks.gone;
     small = ap (λ v. v.items) small ∙ has.asks.small;
   }
 
-pub parted_shows : {A : Type 0} (inputs : List InputRule) (rows : List Row) (before after : Option FolderHistory) (listed : List Listed) (keyed : Keyed) → length listed ≤ 65_536 → (result : Result A Status) →
+pub parted_shows : {A : Type 0} (inputs : List InputRule) (rows : List Row) (before after : Option FolderHistory) (listed : List Listed) (keyed : Keyed) → (result : Result A Status) →
     IfSome before (λ told. HasAsked inputs told listed keyed after) → IfErr result (IsPartedEnd rows keyed.files.items) → IfErr result (λ status. IfSome before (λ told. ShowsScanEnd inputs told rows after status))
-parted_shows inputs rows before after listed keyed few (Ok scanned) has ends = tt
-parted_shows inputs rows None after listed keyed few (Err status) has ends = tt
-parted_shows inputs rows (Some told) after listed keyed few (Err status) has ends = parted_shows_one inputs told listed keyed after has rows few status ends
+parted_shows inputs rows before after listed keyed (Ok scanned) has ends = tt
+parted_shows inputs rows None after listed keyed (Err status) has ends = tt
+parted_shows inputs rows (Some told) after listed keyed (Err status) has ends = parted_shows_one inputs told listed keyed after has rows status ends
 
 -- which files are followed, of what a scan tells
 pub parted_told : (inputs : List InputRule) (before after : Option FolderHistory) (scanned : Scanned) → IfSome before (λ told. TellsScanned inputs told scanned after) →
@@ -246,22 +243,19 @@ parted_told inputs before after scanned tells =
 
 -- ---- what is known of parted files
 
-pub files_are_few : (listed files doubled : List Listed) → PartsDoubled listed files doubled → length listed ≤ 65_536 → length files ≤ 65_536
-files_are_few listed files doubled parts few = omega (arith, few, lengths_add listed files doubled parts)
-
 pub refused_parted : {A : Type 0} (rows : List Row) (listed files doubled : List Listed) → PartsDoubled listed files doubled → (result : Result A Status) → IfErr result (IsStartEnd rows files) → IfErr result (IsPartedEnd rows listed)
 refused_parted rows listed files doubled parts (Ok scanned) ends = tt
 refused_parted rows listed files doubled parts (Err status) ends = inr (record { files = files; doubled = doubled; parts = parts; ends = ends })
 
 module _ (result : Result Scanned Status) (keyed : Keyed) (parts : IfOk result (λ scanned. PartsDoubled keyed.files.items scanned.listed.items scanned.doubled.items)) where
-  pub scanned_parts : (inputs : List InputRule) (before after : Option FolderHistory) (listed : List Listed) → length listed ≤ 65_536 → IfSome before (λ told. HasAsked inputs told listed keyed after) →
+  pub scanned_parts : (inputs : List InputRule) (before after : Option FolderHistory) (listed : List Listed) → IfSome before (λ told. HasAsked inputs told listed keyed after) →
       IfOk result (λ scanned. scanned.gone ≡ keyed.gone) → IfOk result (λ scanned. scanned.small ≡ keyed.small) → IfOk result (λ scanned. IfSome before (λ told. TellsScanned inputs told scanned after))
-  scanned_parts inputs before after listed few_listed has gone small = by_result result parts gone small
+  scanned_parts inputs before after listed has gone small = by_result result parts gone small
     where
       by_result : (r : Result Scanned Status) → IfOk r (λ scanned. PartsDoubled keyed.files.items scanned.listed.items scanned.doubled.items) → IfOk r (λ scanned. scanned.gone ≡ keyed.gone) →
           IfOk r (λ scanned. scanned.small ≡ keyed.small) → IfOk r (λ scanned. IfSome before (λ told. TellsScanned inputs told scanned after))
       by_result (Ok scanned) parted none few =
-          each_some before (λ told. HasAsked inputs told listed keyed after) (λ told. TellsScanned inputs told scanned after) (λ told is. tells_scanned inputs told listed keyed after is few_listed scanned parted none few) has
+          each_some before (λ told. HasAsked inputs told listed keyed after) (λ told. TellsScanned inputs told scanned after) (λ told is. tells_scanned inputs told listed keyed after is scanned parted none few) has
       by_result (Err status) parted none few = tt
 
   pub parted_each : (P : Listed → Type 0) → All P keyed.files.items → IfOk result (λ scanned. All P scanned.listed.items)
@@ -269,11 +263,4 @@ module _ (result : Result Scanned Status) (keyed : Keyed) (parts : IfOk result (
     where
       by_result : (r : Result Scanned Status) → IfOk r (λ scanned. PartsDoubled keyed.files.items scanned.listed.items scanned.doubled.items) → IfOk r (λ scanned. All P scanned.listed.items)
       by_result (Ok scanned) parted = each_file keyed.files.items scanned.listed.items scanned.doubled.items parted P each
-      by_result (Err status) parted = tt
-
-  pub parted_few : length keyed.files.items ≤ 65_536 → IfOk result (λ scanned. length scanned.listed.items ≤ 65_536)
-  parted_few few = by_result result parts
-    where
-      by_result : (r : Result Scanned Status) → IfOk r (λ scanned. PartsDoubled keyed.files.items scanned.listed.items scanned.doubled.items) → IfOk r (λ scanned. length scanned.listed.items ≤ 65_536)
-      by_result (Ok scanned) parted = files_are_few keyed.files.items scanned.listed.items scanned.doubled.items parted few
       by_result (Err status) parted = tt

@@ -172,7 +172,6 @@ is_within = record {
   scans = scans;
   later = drop 2 worked.trace.events;
   after_is = refl;
-  few_listed = lit≤ tt;
   few_known = lit≤ tt;
   room = has_room;
 }

@@ -23,7 +23,7 @@ use Rattle.run_steps.specs.Areas.{GiveTheRows, HaveHeldFronts}
 use Rattle.run_steps.specs.Met.{AreLeft, IsTelling}
 use Rattle.run_steps.specs.Together.{Areas}
 use Rattle.run_steps.specs.declared.met.Met.{Met}
-use Rattle.beat_run.specs.Ends.{FindsNoRoom, IsBehindSettings, IsReportEnd}
+use Rattle.beat_run.specs.Ends.{IsBehindSettings, IsReportEnd, ListsTooMany}
 use Rattle.beat_run.specs.EpochsLeft.{FindsNoEpoch}
 use Rattle.beat_run.specs.Named.{IsNamed}
 use Rattle.beat_run.specs.Printed.{IsReportOver}
@@ -44,7 +44,7 @@ IsMetFor _ what = Unit {0}
 pub record HasNoRoom {D : Type 0} (disks : DiskWords D) (settings : Settings) (objects : RunObjects D) (told : FolderHistory) (path : List ℕ) : Type 0 where
   pub rows : List Row
   pub given : GiveTheRows disks objects.before.a objects.before.b rows
-  pub finds : FindsNoRoom settings.inputs told rows path objects.after.folder
+  pub lists : ListsTooMany settings.inputs told rows Files path objects.after.folder
 
 -- and beside these rows there is no epoch for the file
 pub record HasNoEpoch {D : Type 0} (disks : DiskWords D) (settings : Settings) (objects : RunObjects D) (told : FolderHistory) (path : List ℕ) : Type 0 where

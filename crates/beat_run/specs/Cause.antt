@@ -10,7 +10,7 @@ use Rattle.outside.specs.Counts.{IsAtEnd, Rose}
 use Rattle.outside.specs.Folders.{FolderHistory, Listed}
 use Rattle.outside.specs.Wires.{Outcome}
 use Rattle.outside.specs.declared.history.Shown.{Shown}
-use Rattle.prospect.specs.ListedFiles.{FindsNoNumbers, FindsOneMore}
+use Rattle.prospect.specs.ListedFiles.{FindsNoNumbers}
 use Rattle.prospect.specs.Members.{IsCovered}
 use Rattle.report.specs.declared.status.Status.{Status}
 use Rattle.report.specs.declared.status.Status.TheVariants.{Done, Stopped, Usage, Settings, RegistryBad, DiskFault, FolderFault, Unreachable, OutFault, SourceFault, TooMany, NoNative, NoMemory, Unbuilt}
@@ -100,7 +100,7 @@ CauseBy settings before now FolderFault = Rose before.counts.folder_faults now.c
 CauseBy settings before now (Unreachable worker failures) = IsFailedWorker settings before now worker failures
 CauseBy settings before now OutFault = ⊥
 CauseBy settings before now SourceFault = ⊥
-CauseBy settings before now (TooMany Files path) = IfSome before.folder (λ told. FindsOneMore settings.inputs told path now.folder ⊎ WasListed path told now.folder)
+CauseBy settings before now (TooMany Files path) = IfSome before.folder (λ told. WasListed path told now.folder)
 CauseBy settings before now (TooMany Epochs path) = IfSome before.folder (λ told. WasListed path told now.folder)
 CauseBy settings before now (TooMany Slots path) = ⊥
 CauseBy settings before now (NoNative path) = IfSome before.folder (λ told. LacksNumbers settings.inputs path told now.folder)

@@ -15,7 +15,6 @@ use Rattle.prospect.specs.Lacks.{lacks_of}
 use Rattle.prospect.specs.ListedFiles.{AreApart, AreInOrder, AreOfShown}
 use Rattle.prospect.specs.Members.{globs_of}
 use Rattle.prospect.specs.Scan.{AreListed, Listing}
-use Rattle.prospect.specs.declared.files.TheConstants.{MAX_FILES}
 use Rattle.prospect.specs.declared.listed.Listed.{Listed}
 use Rattle.report.specs.declared.status.Status.{Status}
 use Rattle.report.specs.declared.status.Status.TheVariants.{Done, NoMemory}
@@ -94,17 +93,11 @@ pub record PeersServe (timeout : ℕ) (before now : Signs) : Type 0 where
 
 -- ---- how many files there are
 
--- no more files than a run may list are those of what the listings showed, each once
-abbrev pub ListFewFiles : List InputRule → FolderHistory → Option FolderHistory → Type 0
-ListFewFiles inputs told after = (listings : List Listing) (files : List Listed) → AreListed (globs_of inputs) told listings after → AreOfShown inputs listings files →
-    AreInOrder files → AreApart files → length files ≤ MAX_FILES
-
--- nor are there more of those that are followed, and of the rows that the areas gave, than there may be; and none of them needs an epoch
--- above the last one
+-- there are no more of the files that are followed, one for each key, and of the rows that the areas gave, than there may be; and none of
+-- them needs an epoch above the last one
 pub record HasRoom {D : Type 0} (disks : DiskWords D) (a b : D) (inputs : List InputRule) (before after : Option FolderHistory) : Type 0 where
   pub told : FolderHistory
   pub told_is : before ≡ Some told
-  pub few_listed : ListFewFiles inputs told after
   pub few_known : (rows : List Row) (files doubled : List Listed) → GiveTheRows disks a b rows → ScansParted inputs told files doubled after → AreFewFiles rows files
   pub epochs_left : (rows : List Row) → GiveTheRows disks a b rows → HaveEpochsLeft inputs told rows after
 

@@ -5,7 +5,7 @@ use Rattle.outside.specs.declared.failed.FolderError.{FolderError}
 use Rattle.outside.specs.declared.failed.FolderError.TheVariants.{Failed as FolderFailed, NoMemory as FolderNoMemory}
 use Rattle.prospect.specs.declared.listed.Listed.{Listed}
 use Rattle.prospect.specs.declared.scan_error.ScanError.{ScanError}
-use Rattle.prospect.specs.declared.scan_error.ScanError.TheVariants.{Failed as ScanFailed, NoMemory as ScanNoMemory, NoNative as ScanNoNative, TooMany as ScanTooMany}
+use Rattle.prospect.specs.declared.scan_error.ScanError.TheVariants.{Failed as ScanFailed, NoMemory as ScanNoMemory, NoNative as ScanNoNative}
 use Rattle.report.specs.declared.status.Status.{Status}
 use Rattle.restart_join.specs.declared.join_error.JoinError.{JoinError}
 use Rattle.restart_join.specs.declared.join_error.JoinError.TheVariants.{NoMemory as JoinNoMemory, TooMany as JoinTooMany}
@@ -43,7 +43,6 @@ abbrev pub StandsForScan : ScanError → Status → Type 0
 StandsForScan ScanFailed status = status ≡ FolderFault
 StandsForScan ScanNoMemory status = status ≡ NoMemory
 StandsForScan (ScanNoNative path) status = status ≡ NoNative path
-StandsForScan (ScanTooMany path) status = status ≡ TooMany Files path
 
 abbrev pub StandsForAsking : FolderError → Status → Type 0
 StandsForAsking FolderFailed status = status ≡ FolderFault

@@ -5,7 +5,7 @@ use Rattle.beat_config.specs.declared.settings_error.SettingsError.{SettingsErro
 use Rattle.event_tree.specs.declared.input_rule.InputRule.{InputRule}
 use Rattle.outside.specs.Folders.{FolderHistory}
 use Rattle.prospect.specs.Doubled.{PartsDoubled}
-use Rattle.prospect.specs.ListedFiles.{FindsNoNumbers, FindsOneMore}
+use Rattle.prospect.specs.ListedFiles.{FindsNoNumbers}
 use Rattle.prospect.specs.Members.{globs_of}
 use Rattle.prospect.specs.Unfinished.{ListsSome}
 use Rattle.prospect.specs.declared.listed.Listed.{Listed}
@@ -59,18 +59,12 @@ IsScanEnd before now (TooMany Epochs path) = Unit {0}
 IsScanEnd before now (NoNative path) = Unit {0}
 IsScanEnd before now _ = ⊥
 
--- all was listed, no more than a run may list, and of the files that are followed the first that is too much for these rows has this path
+-- all was listed, and of the files that are followed the first that is too much for these rows has this path
 pub record ListsTooMany (inputs : List InputRule) (told : FolderHistory) (rows : List Row) (what : Full) (path : List ℕ) (after : Option FolderHistory) : Type 0 where
   pub files : List Listed
   pub doubled : List Listed
   pub scans : ScansParted inputs told files doubled after
-  pub few : length scans.all ≤ 65_536
   pub first : IsFirstTooMany rows files what path
-
--- there is no room for the file of this path: it is the first behind as many as a run may list, whatever rows there are; or, of no more,
--- the first that is too many beside these rows
-abbrev pub FindsNoRoom : List InputRule → FolderHistory → List Row → List ℕ → Option FolderHistory → Type 0
-FindsNoRoom inputs told rows path after = FindsOneMore inputs told path after ⊎ ListsTooMany inputs told rows Files path after
 
 -- its listings that were made, or all of them and some of its askings
 abbrev pub ScansSome : List InputRule → FolderHistory → Option FolderHistory → Type 0
@@ -80,7 +74,7 @@ ScansSome inputs told after = ListsSome (globs_of inputs) told after ⊎ ScansAn
 abbrev pub ShowsScanEnd : List InputRule → FolderHistory → List Row → Option FolderHistory → Status → Type 0
 ShowsScanEnd inputs told rows after FolderFault = ScansSome inputs told after
 ShowsScanEnd inputs told rows after NoMemory = ScansSome inputs told after
-ShowsScanEnd inputs told rows after (TooMany Files path) = FindsNoRoom inputs told rows path after
+ShowsScanEnd inputs told rows after (TooMany Files path) = ListsTooMany inputs told rows Files path after
 ShowsScanEnd inputs told rows after (TooMany Epochs path) = ListsTooMany inputs told rows Epochs path after
 ShowsScanEnd inputs told rows after (NoNative path) = FindsNoNumbers inputs told path after
 ShowsScanEnd inputs told rows after _ = ⊥

@@ -22,10 +22,9 @@ pub record ScansParted (inputs : List InputRule) (told : FolderHistory) (files d
   pub after_is : after ≡ Some scanned
   pub parts : PartsDoubled (flat_map keyed_by asked) files doubled
 
--- the scan tells these files, of no more listed ones than a run may list; those that were gone as they were asked, and those that are too small, are told by the same askings
+-- the scan tells these files; those that were gone as they were asked, and those that are too small, are told by the same askings
 pub record TellsScanned (inputs : List InputRule) (told : FolderHistory) (tells : Scanned) (after : Option FolderHistory) : Type 0 where
   pub parted : ScansParted inputs told tells.listed.items tells.doubled.items after
-  pub few : length parted.all ≤ 65_536
   pub gone : tells.gone.items ≡ flat_map gone_by parted.asked
   pub small : tells.small.items ≡ flat_map small_by parted.asked
 

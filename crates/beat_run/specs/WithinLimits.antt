@@ -1,5 +1,5 @@
--- What a run that tells a report kept within (this project's profile): it listed no more files than a run may list, each with the native numbers
--- that its input asks for; those that are followed are, with the rows that its areas gave, no more than there may be; and each of them could
+-- What a run that tells a report kept within (this project's profile): each file that it listed has the native numbers that its input asks
+-- for; those that are followed, one for each key, are with the rows that its areas gave no more than there may be; and each of them could
 -- be started, in an epoch that there is.
 use Rattle.std.specs.Prelude.{◌≡◌, ◌≤◌, List, ◌++◌, length, Option, Some}
 use Rattle.event_tree.specs.declared.input_rule.InputRule.{InputRule}
@@ -21,7 +21,6 @@ pub record IsWithinLimits (inputs : List InputRule) (rows : List Row) (told : Fo
   pub scans : ScansParted inputs told files doubled (Some scanned)
   pub later : List Event
   pub after_is : after ≡ Some (record scanned { events = scanned.events ++ later })
-  pub few_listed : length scans.all ≤ 65_536
   pub few_known : AreFewFiles rows files
   pub room : HaveRoomBefore rows files (length files)
 

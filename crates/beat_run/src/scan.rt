@@ -2,7 +2,7 @@ ghost use Rattle.std.specs.Prelude.{◌<◌, ◌≡◌, ◌≤◌, ◌-◌, ◌^
 ghost use Rattle.outside.specs.Counts.{next_count};
 ghost use Rattle.outside.specs.Times.{GivesMoment};
 ghost use Rattle.prospect.specs.AskedFiles.{AreAskable};
-ghost use Rattle.prospect.specs.Doubled.{PartsDoubled};
+ghost use Rattle.prospect.specs.Doubled.{AreKeysApart, PartsDoubled};
 ghost use Rattle.prospect.specs.ListedFiles.{IsListedInRange};
 ghost use Rattle.prospect.specs.Members.{HaveGlobs, HaveShortIds};
 ghost use Rattle.wire_base.specs.Ranges.{IsMoment};
@@ -75,12 +75,12 @@ pub fn scan<F: Folder, K: Clock>(
 /// The files with keys, parted, with where each of the first starts; and those that have none.
 fn part_files(alloc: Global, rows: &Rows, keyed: Keyed, now: Moment) -> Result<Scanned, Status>
     requires few_rows { length rows.now ≤ 65_536 }
-    requires few_files { length keyed.files.items ≤ 65_536 }
     ensures parts { IfOk result (λ scanned.
         PartsDoubled keyed.files.items scanned.listed.items scanned.doubled.items) }
     ensures gone { IfOk result (λ scanned. scanned.gone ≡ keyed.gone) }
     ensures small { IfOk result (λ scanned. scanned.small ≡ keyed.small) }
     ensures now { IfOk result (λ scanned. scanned.now ≡ now) }
+    ensures few_listed { IfOk result (λ scanned. length scanned.listed.items ≤ 65_536) }
     ensures few { IfOk result (λ scanned. AreFewFiles rows.now scanned.listed.items) }
     ensures room { IfOk result (λ scanned.
         HaveRoomBefore rows.now scanned.listed.items (length scanned.listed.items)) }
@@ -108,7 +108,8 @@ fn part_files(alloc: Global, rows: &Rows, keyed: Keyed, now: Moment) -> Result<S
 /// Where each of these files starts.
 fn starts_by_rows(alloc: Global, rows: &Rows, files: &[Listed]) -> Result<Vec<Start>, Status>
     requires few_rows { length rows.now ≤ 65_536 }
-    requires few_files { length files.now ≤ 65_536 }
+    requires apart { AreKeysApart files.now }
+    ensures few_listed { IfOk result (λ _. length files.now ≤ 65_536) }
     ensures few { IfOk result (λ _. AreFewFiles rows.now files.now) }
     ensures room { IfOk result (λ _. HaveRoomBefore rows.now files.now (length files.now)) }
     ensures starts { IfOk result (λ starts. starts.items ≡ starts_among rows.now files.now) }

@@ -75,10 +75,6 @@ pub fn status_of_scan(error: ScanError) -> Status
         ScanError::Failed => Status::FolderFault,
         ScanError::NoMemory => Status::NoMemory,
         ScanError::NoNative { path } => Status::NoNative { path },
-        ScanError::TooMany { path } => Status::TooMany {
-            what: Full::Files,
-            path,
-        },
     }
 }
 

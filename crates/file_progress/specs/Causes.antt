@@ -9,8 +9,7 @@ use Rattle.prospect.specs.declared.scan_error.ScanError.TheVariants as scanning
 use Rattle.registry_store.specs.declared.pick_error.PickError.{PickError}
 use Rattle.registry_store.specs.declared.pick_error.PickError.TheVariants as picking
 use Rattle.report.specs.declared.status.Status.{Status}
-use Rattle.report.specs.declared.status.Status.TheVariants.{Done, DiskFault, FolderFault, NoMemory, NoNative, OutFault, RegistryBad, Settings, SourceFault, TooMany}
-use Rattle.wire_base.specs.declared.limits.Full.TheVariants.{Files}
+use Rattle.report.specs.declared.status.Status.TheVariants.{Done, DiskFault, FolderFault, NoMemory, NoNative, OutFault, RegistryBad, Settings, SourceFault}
 
 -- reading the settings, by the source's count of faults
 abbrev pub IsSettingsEnd : ℕ → ℕ → Status → Type 0
@@ -23,13 +22,11 @@ IsSettingsEnd before now _ = ⊥
 abbrev pub IsScanEnd : ℕ → ℕ → Status → Type 0
 IsScanEnd before now FolderFault = Rose before now
 IsScanEnd before now NoMemory = Unit {0}
-IsScanEnd before now (TooMany Files path) = Unit {0}
 IsScanEnd before now (NoNative path) = Unit {0}
 IsScanEnd before now _ = ⊥
 
--- what a scan that found too many files, or one without native numbers, has listed
+-- what a scan that found a file without native numbers has listed
 abbrev pub ShowsScanEnd : List InputRule → FolderHistory → Status → Option FolderHistory → Type 0
-ShowsScanEnd inputs told (TooMany Files path) after = EndsAs inputs told (scanning.TooMany path) after
 ShowsScanEnd inputs told (NoNative path) after = EndsAs inputs told (scanning.NoNative path) after
 ShowsScanEnd inputs told _ after = Unit {0}
 
@@ -37,7 +34,6 @@ abbrev pub StandsFor : ScanError → Status → Type 0
 StandsFor scanning.Failed status = status ≡ FolderFault
 StandsFor scanning.NoMemory status = status ≡ NoMemory
 StandsFor (scanning.NoNative path) status = status ≡ NoNative path
-StandsFor (scanning.TooMany path) status = status ≡ TooMany Files path
 
 abbrev pub StandsForPick : PickError → Status → Type 0
 StandsForPick (picking.Bad area at) status = status ≡ RegistryBad area at
@@ -58,7 +54,6 @@ IsLookEnd before now (RegistryBad area at) = Unit {0}
 IsLookEnd before now DiskFault = Rose before.area_a now.area_a ⊎ Rose before.area_b now.area_b
 IsLookEnd before now FolderFault = Rose before.folder now.folder
 IsLookEnd before now SourceFault = Rose before.source now.source
-IsLookEnd before now (TooMany Files path) = Unit {0}
 IsLookEnd before now (NoNative path) = Unit {0}
 IsLookEnd before now NoMemory = Unit {0}
 IsLookEnd before now _ = ⊥
@@ -74,8 +69,7 @@ IsEnd before now out Done = Unit {0}
 IsEnd before now out OutFault = Rose out.before out.now
 IsEnd before now out status = IsLookEnd before now status
 
--- the scan found too many files, or one without native numbers
+-- the scan found a file without native numbers
 abbrev pub IsOfScan : Status → Type 0
-IsOfScan (TooMany Files path) = Unit {0}
 IsOfScan (NoNative path) = Unit {0}
 IsOfScan _ = ⊥

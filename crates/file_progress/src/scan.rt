@@ -10,7 +10,6 @@ use outside::{Folder, FolderError};
 use prospect::{Keyed, Listed, ScanError, ask_files, list_files, part_doubled};
 use report::Status;
 use std::alloc::Global;
-use wire_base::Full;
 
 /// The files that a scan found, each list in the order of the scan.
 #[derive(Drop)]
@@ -75,9 +74,5 @@ fn status_of_scan(error: ScanError) -> Status
         ScanError::Failed => Status::FolderFault,
         ScanError::NoMemory => Status::NoMemory,
         ScanError::NoNative { path } => Status::NoNative { path },
-        ScanError::TooMany { path } => Status::TooMany {
-            what: Full::Files,
-            path,
-        },
     }
 }

@@ -26,12 +26,12 @@ use Rattle.keeper.specs.FewKeys.{AreFewKeys, HasRoomFor}
 -- ---- rows whose keys are among others are no more than these
 
 -- the keys without one of them
-record Without (key : List ℕ) (keys : List (List ℕ)) : Type 0 where
-  rest : List (List ℕ)
-  shorter : length keys ≡ suc (length rest)
-  others : (other : List ℕ) → other ≢ key → Contains keys other → Contains rest other
+pub record Without (key : List ℕ) (keys : List (List ℕ)) : Type 0 where
+  pub rest : List (List ℕ)
+  pub shorter : length keys ≡ suc (length rest)
+  pub others : (other : List ℕ) → other ≢ key → Contains keys other → Contains rest other
 
-take_out : (key : List ℕ) (keys : List (List ℕ)) → Contains keys key → Without key keys
+pub take_out : (key : List ℕ) (keys : List (List ℕ)) → Contains keys key → Without key keys
 take_out key [] there = absurd (none_there key there)
 take_out key (first ∷ keys) there = elim (there_cases first key keys there) [
   | inl same ↦ record {

@@ -11,10 +11,9 @@ use Rattle.event_tree.specs.declared.input_rule.IdentityRule.TheVariants.{Finger
 use Rattle.outside.specs.declared.entry.Entry.{Entry}
 use Rattle.prospect.specs.declared.listed.Listed.{Listed}
 use Rattle.prospect.specs.declared.scan_error.ScanError.{ScanError}
-use Rattle.prospect.specs.declared.scan_error.ScanError.TheVariants.{Failed, NoMemory, NoNative, TooMany}
+use Rattle.prospect.specs.declared.scan_error.ScanError.TheVariants.{Failed, NoMemory, NoNative}
 use Rattle.prospect.specs.declared.scan_input.ScanInput.{ScanInput}
-use Rattle.prospect.specs.declared.files.TheConstants.{MAX_FILES}
-use Rattle.prospect.specs.Covered.{AddsCovered, AreCovered, CoversEntry, IsFileOf, IsKeyless, IsOneMore, IsUntold, Pair, Stop, StopsAt, file_of, pair_of, pairs_for, pairs_of, pairs_with}
+use Rattle.prospect.specs.Covered.{AddsCovered, AreCovered, CoversEntry, IsFileOf, IsKeyless, IsUntold, Pair, Stop, StopsAt, file_of, pair_of, pairs_for, pairs_of, pairs_with}
 use Rattle.prospect.specs.declared.showing.Showing.{Showing}
 use Rattle.prospect.specs.Readings.{Reading, reading_of}
 use Rattle.prospect.specs.Showings.{entries_for, entries_of}
@@ -66,57 +65,25 @@ stop_later pairs others behind more covered stop = record {
   covered_before = covered_append pairs stop.before more stop.more covered stop.covered_before;
 }
 
--- as many stand before it
-as_many : (pairs : List Pair) (old between more : List Listed) (added : AddsCovered pairs old between) → length (old ++ (added.more ++ more)) ≡ length (between ++ more)
-as_many pairs old between more added =
-    ap (λ (l : List Listed). length l) (sym (append_assoc old added.more more) ∙ ap (λ (l : List Listed). l ++ more) (sym added.added))
-
--- the pair is one more at once
-pub stops_here : (pair : Pair) (old : List Listed) (path : List ℕ) → IsFileOf pair → length old ≡ MAX_FILES → path ≡ pair.entry.path → IsOneMore (pair ∷ []) old path
-stops_here pair old path is full path_is = record {
-  stop = stop_here pair;
-  full = ap (λ (l : List Listed). length l) (append-nil old) ∙ full;
-  file = is;
-  path_is = sym path_is;
-}
-
 -- no key is told for the pair
-pub keyless_here : (pair : Pair) (old : List Listed) (error : ScanError) → length old ≤ MAX_FILES → CoversEntry pair → IsKeyless pair error → StopsAt (pair ∷ []) old error
-keyless_here pair old Failed few covers keyless = keyless
-keyless_here pair old NoMemory few covers keyless = tt
-keyless_here pair old (NoNative path) few covers keyless = record {
-  stop = stop_here pair;
-  few = subst (λ (l : List Listed). length l ≤ MAX_FILES) (sym (append-nil old)) few;
-  covers = covers;
-  lacks = keyless.0;
-  path_is = keyless.1;
-}
-keyless_here pair old (TooMany path) few covers keyless = absurd keyless
+pub keyless_here : (pair : Pair) (error : ScanError) → CoversEntry pair → IsKeyless pair error → StopsAt (pair ∷ []) error
+keyless_here pair Failed covers keyless = keyless
+keyless_here pair NoMemory covers keyless = tt
+keyless_here pair (NoNative path) covers keyless = record { stop = stop_here pair; covers = covers; lacks = keyless.0; path_is = keyless.1 }
 
-untold_later : (pairs others behind : List Pair) (old between : List Listed) (path : List ℕ) → AddsCovered pairs old between → IsUntold others between path → IsUntold (pairs ++ (others ++ behind)) old path
+untold_later : (pairs others behind : List Pair) (old between : List Listed) (path : List ℕ) → AddsCovered pairs old between → IsUntold others path → IsUntold (pairs ++ (others ++ behind)) path
 untold_later pairs others behind old between path added untold = record {
   stop = stop_later pairs others behind added.more added.covered untold.stop;
-  few = subst (λ (n : ℕ). n ≤ MAX_FILES) (sym (as_many pairs old between untold.stop.more added)) untold.few;
   covers = untold.covers;
   lacks = untold.lacks;
   path_is = untold.path_is;
 }
 
-one_more_later : (pairs others behind : List Pair) (old between : List Listed) (path : List ℕ) → AddsCovered pairs old between → IsOneMore others between path → IsOneMore (pairs ++ (others ++ behind)) old path
-one_more_later pairs others behind old between path added one = record {
-  stop = stop_later pairs others behind added.more added.covered one.stop;
-  full = as_many pairs old between one.stop.more added ∙ one.full;
-  file = one.file;
-  path_is = one.path_is;
-}
-
-pub stops_later : (pairs others behind all : List Pair) (old between : List Listed) (error : ScanError) → pairs ++ (others ++ behind) ≡ all → AddsCovered pairs old between → StopsAt others between error → StopsAt all old error
+pub stops_later : (pairs others behind all : List Pair) (old between : List Listed) (error : ScanError) → pairs ++ (others ++ behind) ≡ all → AddsCovered pairs old between → StopsAt others error → StopsAt all error
 stops_later pairs others behind all old between Failed are added stops = stops
 stops_later pairs others behind all old between NoMemory are added stops = tt
 stops_later pairs others behind all old between (NoNative path) are added stops =
-    subst (λ (l : List Pair). IsUntold l old path) are (untold_later pairs others behind old between path added stops)
-stops_later pairs others behind all old between (TooMany path) are added stops =
-    subst (λ (l : List Pair). IsOneMore l old path) are (one_more_later pairs others behind old between path added stops)
+    subst (λ (l : List Pair). IsUntold l path) are (untold_later pairs others behind old between path added stops)
 
 -- ---- the entries of a path, for one input
 
@@ -140,18 +107,18 @@ adds_others showing reading old between new is first others =
     subst (λ (r : IdentityRule). AddsCovered (map (with_reading reading) (entries_for r showing)) old new) (sym is)
     (adds_further (pair_of showing.first reading ∷ []) (map (with_reading reading) showing.others.items) old between new first others)
 
-pub stops_at_first : (showing : Showing) (reading : Reading) (old : List Listed) (error : ScanError) → StopsAt (pair_of showing.first reading ∷ []) old error → StopsAt (pairs_for showing reading) old error
-stops_at_first showing reading old error stops = by_rule reading.identity
+pub stops_at_first : (showing : Showing) (reading : Reading) (error : ScanError) → StopsAt (pair_of showing.first reading ∷ []) error → StopsAt (pairs_for showing reading) error
+stops_at_first showing reading error stops = by_rule reading.identity
   where
-    by_rule : (rule : IdentityRule) → StopsAt (map (with_reading reading) (entries_for rule showing)) old error
+    by_rule : (rule : IdentityRule) → StopsAt (map (with_reading reading) (entries_for rule showing)) error
     by_rule (Fingerprint offset count) = stops
-    by_rule Native = stops_later [] (pair_of showing.first reading ∷ []) (map (with_reading reading) showing.others.items) (map (with_reading reading) (entries_of showing)) old old error refl (adds_no_file old) stops
+    by_rule Native = stops_later [] (pair_of showing.first reading ∷ []) (map (with_reading reading) showing.others.items) (map (with_reading reading) (entries_of showing)) [] [] error refl (adds_no_file []) stops
     by_rule Path = stops
 
 pub stops_at_others : (showing : Showing) (reading : Reading) (old between : List Listed) (error : ScanError) → reading.identity ≡ Native →
-    AddsCovered (pair_of showing.first reading ∷ []) old between → StopsAt (map (with_reading reading) showing.others.items) between error → StopsAt (pairs_for showing reading) old error
+    AddsCovered (pair_of showing.first reading ∷ []) old between → StopsAt (map (with_reading reading) showing.others.items) error → StopsAt (pairs_for showing reading) error
 stops_at_others showing reading old between error is first stops =
-    subst (λ (r : IdentityRule). StopsAt (map (with_reading reading) (entries_for r showing)) old error) (sym is)
+    subst (λ (r : IdentityRule). StopsAt (map (with_reading reading) (entries_for r showing)) error) (sym is)
     (stops_later (pair_of showing.first reading ∷ []) (map (with_reading reading) showing.others.items) [] (map (with_reading reading) (entries_of showing)) old between error
     (ap (λ (l : List Pair). pair_of showing.first reading ∷ l) (append-nil (map (with_reading reading) showing.others.items))) first stops)
 
@@ -172,8 +139,8 @@ adds_next_other reading entries i entry old between new within is before here =
     (adds_further (map (with_reading reading) (take i entries)) (pair_of entry reading ∷ []) old between new before here)
 
 pub stops_at_other : (reading : Reading) (entries : List Entry) (i : ℕ) (entry : Entry) (old between : List Listed) (error : ScanError) → i < length entries → entry ≡ get_or entries i entry →
-    AddsCovered (map (with_reading reading) (take i entries)) old between → StopsAt (pair_of entry reading ∷ []) between error →
-    StopsAt (map (with_reading reading) entries) old error
+    AddsCovered (map (with_reading reading) (take i entries)) old between → StopsAt (pair_of entry reading ∷ []) error →
+    StopsAt (map (with_reading reading) entries) error
 stops_at_other reading entries i entry old between error within is before stops =
     stops_later (pairs (take i entries)) (pair_of entry reading ∷ []) (pairs (drop (i + 1) entries)) (pairs entries) old between error all before stops
   where
@@ -205,8 +172,8 @@ adds_next_input showing inputs i input old between new within is before here =
     (adds_further (pairs_with (map reading_of (take i inputs)) showing) (pairs_for showing (reading_of input)) old between new before here)
 
 pub stops_at_input : (showing : Showing) (inputs : List ScanInput) (i : ℕ) (input : ScanInput) (old between : List Listed) (error : ScanError) → i < length inputs → input ≡ get_or inputs i input →
-    AddsCovered (pairs_with (map reading_of (take i inputs)) showing) old between → StopsAt (pairs_for showing (reading_of input)) between error →
-    StopsAt (pairs_with (map reading_of inputs) showing) old error
+    AddsCovered (pairs_with (map reading_of (take i inputs)) showing) old between → StopsAt (pairs_for showing (reading_of input)) error →
+    StopsAt (pairs_with (map reading_of inputs) showing) error
 stops_at_input showing inputs i input old between error within is before stops =
     stops_later (pairs (take i inputs)) (pairs_for showing (reading_of input)) (pairs (drop (i + 1) inputs)) (pairs inputs) old between error all before stops
   where
@@ -239,8 +206,8 @@ adds_next_path readings yielded one between new before here =
         ∙ ap (λ (l : List Showing). pairs_of readings l) (sym (map-append showing_by yielded (one ∷ [])))
 
 pub stops_at_path : (readings : List Reading) (yielded left entries : List (List ℕ × Showing)) (one : List ℕ × Showing) (between : List Listed) (error : ScanError) →
-    entries ≡ yielded ++ one ∷ left → AreCovered (pairs_of readings (map showing_by yielded)) between → StopsAt (pairs_with readings one.1) between error →
-    StopsAt (pairs_of readings (map showing_by entries)) [] error
+    entries ≡ yielded ++ one ∷ left → AreCovered (pairs_of readings (map showing_by yielded)) between → StopsAt (pairs_with readings one.1) error →
+    StopsAt (pairs_of readings (map showing_by entries)) error
 stops_at_path readings yielded left entries one between error are before stops =
     stops_later (pairs_of readings (map showing_by yielded)) (pairs_with readings one.1) (pairs_of readings (map showing_by left)) (pairs_of readings (map showing_by entries)) [] between error all
     (record { more = between; covered = before; added = refl }) stops

@@ -10,7 +10,7 @@ use Rattle.wire_base.specs.KeyOrder.{compare}
 use Rattle.prospect.specs.declared.listed.Listed.{Listed}
 use Rattle.prospect.specs.declared.listings.Tried.{Tried}
 use Rattle.prospect.specs.declared.scan_error.ScanError.{ScanError}
-use Rattle.prospect.specs.declared.scan_error.ScanError.TheVariants.{Failed, NoMemory, NoNative, TooMany}
+use Rattle.prospect.specs.declared.scan_error.ScanError.TheVariants.{Failed, NoMemory, NoNative}
 use Rattle.prospect.specs.declared.scan_input.ScanInput.{ScanInput}
 use Rattle.prospect.specs.Covered.{AreCovered, StopsAt, pairs_of}
 use Rattle.prospect.specs.Entries.{Lists}
@@ -123,7 +123,7 @@ module _ (inputs : List InputRule) (reads : List ScanInput) (told after : Option
         (served_in serves.tries.attempts) serves.entries_are files covered;
   })
 
-  pub refused : (error : ScanError) → error ≢ NoMemory → StopsAt (pairs_of (map reading_of reads) (map showing_by tried.entries.entries)) [] error →
+  pub refused : (error : ScanError) → error ≢ NoMemory → StopsAt (pairs_of (map reading_of reads) (map showing_by tried.entries.entries)) error →
       IfSome told (λ history. ServesNoFiles inputs history tried.failed.items error faults after)
   refused error some stops = if_told (λ history. ServesNoFiles inputs history tried.failed.items error faults after) (λ history serves. record {
     tries = tries_globs history serves;
@@ -164,7 +164,6 @@ ends_so inputs told failed error faults after serves none = by_error error serve
     by_error Failed refuses = absurd refuses
     by_error NoMemory refuses = absurd refuses
     by_error (NoNative path) refuses = record { listings = its; listed_is = listed_is; lacks = refuses }
-    by_error (TooMany path) refuses = record { listings = its; listed_is = listed_is; one_more = refuses }
 
 pub whole_refused : (inputs : List InputRule) (told : Option FolderHistory) (failed : List (List ℕ)) (error : ScanError) (faults : ℕ) (after : Option FolderHistory) →
     IfSome told (λ history. ServesNoFiles inputs history failed error faults after) → failed ≡ [] → IfSome told (λ history. EndsAs inputs history error after)

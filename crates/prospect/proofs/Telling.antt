@@ -28,12 +28,12 @@ use Rattle.wire_base.specs.Ranges.{IsKey, IsPath}
 use Rattle.wire_base.proofs.ByteOrder.{compare_same}
 use Rattle.prospect.specs.declared.listed.Listed.{Listed}
 use Rattle.prospect.specs.declared.scan_error.ScanError.{ScanError}
-use Rattle.prospect.specs.declared.scan_error.ScanError.TheVariants.{Failed, NoMemory, NoNative, TooMany}
+use Rattle.prospect.specs.declared.scan_error.ScanError.TheVariants.{Failed, NoMemory, NoNative}
 use Rattle.prospect.specs.declared.scan_input.ScanInput.{ScanInput}
 use Rattle.prospect.specs.declared.showing.Showing.{Showing}
-use Rattle.prospect.specs.Covered.{AreCovered, AreNumbers, CoversEntry, IsFileOf, IsOneMore, IsUntold, Pair, Stop, StopsAt, file_of, pair_of, pairs_for, pairs_of, pairs_with}
+use Rattle.prospect.specs.Covered.{AreCovered, AreNumbers, CoversEntry, IsFileOf, IsUntold, Pair, Stop, StopsAt, file_of, pair_of, pairs_for, pairs_of, pairs_with}
 use Rattle.prospect.specs.Entries.{ByPath, IsOne, Lists, ShowEntries, entries_at, entries_in}
-use Rattle.prospect.specs.ListedFiles.{AreApart, AreFilesShown, AreInOrder, AreOfShown, EndsAs, HasFile, HasOneTooMany, IsCoveredBy, IsKeyed, IsListedBy, IsListedInRange, KeyIsTold, LacksNumbersFirst, Name, Place, ScansFiles, name_at, name_of, place_at, place_of, place_order, shown_in}
+use Rattle.prospect.specs.ListedFiles.{AreApart, AreFilesShown, AreInOrder, AreOfShown, EndsAs, HasFile, IsCoveredBy, IsKeyed, IsListedBy, IsListedInRange, KeyIsTold, LacksNumbersFirst, Name, Place, ScansFiles, name_at, name_of, place_at, place_of, place_order, shown_in}
 use Rattle.prospect.specs.Members.{globs_of, HaveShortIds, IsCovered}
 use Rattle.prospect.specs.PastFaults.{RefusesBy}
 use Rattle.prospect.specs.Readings.{Reading, globs_read, reading, reading_of, readings_from}
@@ -174,10 +174,6 @@ sorted_append : (pairs others : List Pair) → AreSorted pairs → AreSorted oth
 sorted_append [] others first second across = second
 sorted_append (pair ∷ pairs) others first second across =
     (all_append (IsBehind pair) pairs others first.0 across.0, sorted_append pairs others first.1 second across.1)
-
-sorted_front : (pairs others : List Pair) → AreSorted (pairs ++ others) → AreSorted pairs
-sorted_front [] others sorted = tt
-sorted_front (pair ∷ pairs) others sorted = (all_front (IsBehind pair) pairs others sorted.0, sorted_front pairs others sorted.1)
 
 -- a pair that comes before this one stands before it
 in_before : (before : List Pair) (pair : Pair) (behind : List Pair) (other : Pair) → AreSorted (before ++ pair ∷ behind) → IsIn (before ++ pair ∷ behind) other →
@@ -491,11 +487,8 @@ module _ (inputs : List InputRule) (reads : List ScanInput) (told after : Option
       All-from_recursion (λ (one : Listed). one.input < length inputs) files
       (covered_all (λ (one : Listed). one.input < length inputs) (IsKnown inputs lists.entries) (λ pair is file. input_of pair is file) pairs files (covered_pairs files covered) known)
 
-  more_in_pairs : (path : List ℕ) → IsOneMore (pairs_of (map reading_of reads) (map showing_by found.entries)) [] path → IsOneMore pairs [] path
-  more_in_pairs path one = subst (λ (l : List Reading). IsOneMore (pairs_of l (map showing_by found.entries)) [] path) numbered one
-
-  untold_in_pairs : (path : List ℕ) → IsUntold (pairs_of (map reading_of reads) (map showing_by found.entries)) [] path → IsUntold pairs [] path
-  untold_in_pairs path untold = subst (λ (l : List Reading). IsUntold (pairs_of l (map showing_by found.entries)) [] path) numbered untold
+  untold_in_pairs : (path : List ℕ) → IsUntold (pairs_of (map reading_of reads) (map showing_by found.entries)) path → IsUntold pairs path
+  untold_in_pairs path untold = subst (λ (l : List Reading). IsUntold (pairs_of l (map showing_by found.entries)) path) numbered untold
 
   stop_known : (stop : Stop pairs) → IsKnown inputs lists.entries stop.pair
   stop_known stop = all_in (IsKnown inputs lists.entries) pairs stop.pair known
@@ -509,15 +502,12 @@ module _ (inputs : List InputRule) (reads : List ScanInput) (told after : Option
   path_listable : (pair : Pair) → IsKnown inputs lists.entries pair → IsPath pair.entry.path
   path_listable pair is = (All-contains IsListable lists.entries pair.entry lists.in_range is.among).path
 
-  pub tells_path : (error : ScanError) → StopsAt (pairs_of (map reading_of reads) (map showing_by found.entries)) [] error → TellsPath error
+  pub tells_path : (error : ScanError) → StopsAt (pairs_of (map reading_of reads) (map showing_by found.entries)) error → TellsPath error
   tells_path Failed stops = tt
   tells_path NoMemory stops = tt
   tells_path (NoNative path) stops =
-      let untold : IsUntold pairs [] path = untold_in_pairs path stops in
+      let untold : IsUntold pairs path = untold_in_pairs path stops in
       subst (λ (p : List ℕ). IsPath p) untold.path_is (path_listable untold.stop.pair (stop_known untold.stop))
-  tells_path (TooMany path) stops =
-      let one : IsOneMore pairs [] path = more_in_pairs path stops in
-      subst (λ (p : List ℕ). IsPath p) one.path_is (path_listable one.stop.pair (stop_known one.stop))
 
   -- ---- where the folder tells
 
@@ -605,7 +595,7 @@ module _ (inputs : List InputRule) (reads : List ScanInput) (told after : Option
         no_key of.rule.file_identity of.rule.id s.entry.path s.entry.native by_numbers none
         (subst (λ (n : Name). KeyIsTold of.rule.file_identity n.key) is told)
 
-    lacks_numbers : (path : List ℕ) → IsUntold pairs [] path → LacksNumbersFirst inputs listings path
+    lacks_numbers : (path : List ℕ) → IsUntold pairs path → LacksNumbersFirst inputs listings path
     lacks_numbers path untold =
         let stop : Stop pairs = untold.stop in
         let is : IsKnown inputs lists.entries stop.pair = stop_known stop in
@@ -628,9 +618,6 @@ module _ (inputs : List InputRule) (reads : List ScanInput) (told after : Option
           none = ap (λ (e : Entry). e.native) one.entry_is ∙ untold.lacks.1;
           first = λ other at of by_numbers none less.
               never_untold_before stop other at of by_numbers none (subst (λ (place : Place). place_order (place_at other at) place ≡ Less) place_is less);
-          before = stop.more;
-          few = untold.few;
-          every_before = λ other at of less. has_before stop other at of (subst (λ (place : Place). place_order (place_at other at) place ≡ Less) place_is less);
         }
 
     files_shown : (files : List Listed) → AreCovered pairs files → AreFilesShown inputs listings files
@@ -641,35 +628,13 @@ module _ (inputs : List InputRule) (reads : List ScanInput) (told after : Option
       apart = (files_sorted pairs files covered sorted).1;
     }
 
-    has_one_more : (path : List ℕ) → IsOneMore pairs [] path → HasOneTooMany inputs listings path
-    has_one_more path one =
-        let stop : Stop pairs = one.stop in
-        let front : List Pair = stop.before ++ stop.pair ∷ [] in
-        let files : List Listed = stop.more ++ file_of stop.pair ∷ [] in
-        let all : pairs ≡ front ++ stop.behind = stop.pairs_are ∙ sym (append_assoc stop.before (stop.pair ∷ []) stop.behind) in
-        let covered : AreCovered front files = covered_append stop.before (stop.pair ∷ []) stop.more (file_of stop.pair ∷ []) stop.covered_before (inl (one.file, [], refl, refl)) in
-        let in_front : AreSorted front = sorted_front front stop.behind (subst AreSorted all sorted) in
-        let known_front : AllByRecursion (IsKnown inputs lists.entries) front = all_front (IsKnown inputs lists.entries) front stop.behind (subst (λ (l : List Pair). AllByRecursion (IsKnown inputs lists.entries) l) all known) in
-        record {
-          before = stop.more;
-          full = one.full;
-          next = file_of stop.pair;
-          path_is = one.path_is;
-          only = all_shown front files covered known_front;
-          every_before = has_before stop;
-          keyed = All-from_recursion (IsKeyed inputs) files (covered_all (IsKeyed inputs) (IsKnown inputs lists.entries) key_of front files covered known_front);
-          in_order = (files_sorted front files covered in_front).0;
-          apart = (files_sorted front files covered in_front).1;
-        }
-
     pub shows_files : (files : List Listed) → AreCovered (pairs_of (map reading_of reads) (map showing_by found.entries)) files → AreFilesShown inputs listings files
     shows_files files covered = files_shown files (covered_pairs files covered)
 
-    pub refuses : (error : ScanError) → error ≢ NoMemory → StopsAt (pairs_of (map reading_of reads) (map showing_by found.entries)) [] error → RefusesBy inputs listings error
+    pub refuses : (error : ScanError) → error ≢ NoMemory → StopsAt (pairs_of (map reading_of reads) (map showing_by found.entries)) error → RefusesBy inputs listings error
     refuses Failed some stops = stops
     refuses NoMemory some stops = some refl
     refuses (NoNative path) some stops = lacks_numbers path (untold_in_pairs path stops)
-    refuses (TooMany path) some stops = has_one_more path (more_in_pairs path stops)
 
   -- one listing for each glob
   listed_by_globs : (history : FolderHistory) (shows : ShowEntries (globs_read reads) lists.entries history after) → AreListed (globs_of inputs) history shows.listings after
@@ -686,7 +651,7 @@ module _ (inputs : List InputRule) (reads : List ScanInput) (told after : Option
         shown = shows_files shows.listings shows.entries_are files covered;
       }
 
-  pub refused : (error : ScanError) → StopsAt (pairs_of (map reading_of reads) (map showing_by found.entries)) [] error → IfSome told (λ history. EndsAs inputs history error after)
+  pub refused : (error : ScanError) → StopsAt (pairs_of (map reading_of reads) (map showing_by found.entries)) error → IfSome told (λ history. EndsAs inputs history error after)
   refused Failed stops = absurd stops
   refused NoMemory stops =
       subst (λ (globs : List (List ℕ)). IfSome told (λ history. ListsSome globs history after)) (globs_are inputs reads numbered)
@@ -699,13 +664,4 @@ module _ (inputs : List InputRule) (reads : List ScanInput) (told after : Option
         listings = shows.listings;
         listed_is = listed_by_globs history shows;
         lacks = lacks_numbers shows.listings shows.entries_are path (untold_in_pairs path stops);
-      }
-  refused (TooMany path) stops = by_told told lists.shown
-    where
-      by_told : (o : Option FolderHistory) → IfSome o (λ history. ShowEntries (globs_read reads) lists.entries history after) → IfSome o (λ history. EndsAs inputs history (TooMany path) after)
-      by_told None shows = tt
-      by_told (Some history) shows = record {
-        listings = shows.listings;
-        listed_is = listed_by_globs history shows;
-        one_more = has_one_more shows.listings shows.entries_are path (more_in_pairs path stops);
       }

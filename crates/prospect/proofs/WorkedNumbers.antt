@@ -155,8 +155,5 @@ refused_without_numbers = record {
     path_is = refl;
     none = refl;
     first = λ one number of by_numbers none. never_before one number of;
-    before = file (7, 1) ∷ [];
-    few = omega arith;
-    every_before = λ one number of less. absurd (never_before one number of less);
   };
 }

@@ -4,9 +4,8 @@ use Rattle.file_identity.specs.Answers.{LacksNumbers}
 use Rattle.file_identity.specs.Key.{listed_key}
 use Rattle.outside.specs.declared.entry.Entry.{Entry}
 use Rattle.prospect.specs.declared.listed.Listed.{Listed}
-use Rattle.prospect.specs.declared.files.TheConstants.{MAX_FILES}
 use Rattle.prospect.specs.declared.scan_error.ScanError.{ScanError}
-use Rattle.prospect.specs.declared.scan_error.ScanError.TheVariants.{Failed, NoMemory, NoNative, TooMany}
+use Rattle.prospect.specs.declared.scan_error.ScanError.TheVariants.{Failed, NoMemory, NoNative}
 use Rattle.prospect.specs.declared.showing.Showing.{Showing}
 use Rattle.prospect.specs.ListedFiles.{KeyIsTold}
 use Rattle.prospect.specs.Members.{IsCovered}
@@ -78,17 +77,9 @@ pub record Stop (pairs : List Pair) : Type 0 where
   pub more : List Listed
   pub covered_before : AreCovered before more
 
--- with those before it there were as many as a scan tells, and the entry of this pair was one more
-pub record IsOneMore (pairs : List Pair) (old : List Listed) (path : List ℕ) : Type 0 where
-  pub stop : Stop pairs
-  pub full : length (old ++ stop.more) ≡ MAX_FILES
-  pub file : IsFileOf stop.pair
-  pub path_is : stop.pair.entry.path ≡ path
-
 -- the input of this pair asks for the numbers of an entry that it covers, and none were told
-pub record IsUntold (pairs : List Pair) (old : List Listed) (path : List ℕ) : Type 0 where
+pub record IsUntold (pairs : List Pair) (path : List ℕ) : Type 0 where
   pub stop : Stop pairs
-  pub few : length (old ++ stop.more) ≤ MAX_FILES
   pub covers : CoversEntry stop.pair
   pub lacks : LacksNumbers stop.pair.reading.identity stop.pair.entry.native
   pub path_is : stop.pair.entry.path ≡ path
@@ -98,11 +89,9 @@ abbrev pub IsKeyless : Pair → ScanError → Type 0
 IsKeyless pair Failed = ⊥
 IsKeyless pair NoMemory = Unit {0}
 IsKeyless pair (NoNative path) = LacksNumbers pair.reading.identity pair.entry.native × (pair.entry.path ≡ path)
-IsKeyless pair (TooMany path) = ⊥
 
 -- why no more were added; out of memory may come with any
-abbrev pub StopsAt : List Pair → List Listed → ScanError → Type 0
-StopsAt pairs old Failed = ⊥
-StopsAt pairs old NoMemory = Unit {0}
-StopsAt pairs old (NoNative path) = IsUntold pairs old path
-StopsAt pairs old (TooMany path) = IsOneMore pairs old path
+abbrev pub StopsAt : List Pair → ScanError → Type 0
+StopsAt pairs Failed = ⊥
+StopsAt pairs NoMemory = Unit {0}
+StopsAt pairs (NoNative path) = IsUntold pairs path

@@ -16,9 +16,8 @@ use Rattle.outside.specs.Folders.{FolderHistory}
 use Rattle.wire_base.specs.KeyOrder.{compare}
 use Rattle.wire_base.specs.Ranges.{IsKey, IsPath, IsPlace}
 use Rattle.prospect.specs.declared.listed.Listed.{Listed}
-use Rattle.prospect.specs.declared.files.TheConstants.{MAX_FILES}
 use Rattle.prospect.specs.declared.scan_error.ScanError.{ScanError}
-use Rattle.prospect.specs.declared.scan_error.ScanError.TheVariants.{Failed, NoMemory, NoNative, TooMany}
+use Rattle.prospect.specs.declared.scan_error.ScanError.TheVariants.{Failed, NoMemory, NoNative}
 use Rattle.prospect.specs.Members.{IsCovered, globs_of}
 use Rattle.prospect.specs.Scan.{AreListed, Listing}
 use Rattle.prospect.specs.Unfinished.{ListsSome}
@@ -115,14 +114,7 @@ KeyIsTold Path key = IsSome key
 abbrev pub IsKeyed : List InputRule → Listed → Type 0
 IsKeyed inputs listed = (rule : InputRule) → slice_get inputs listed.input ≡ Some rule → KeyIsTold rule.file_identity listed.key
 
--- the files have each that stands before the place
-abbrev pub HaveEachBefore : List InputRule → List Listing → List Listed → Place → Type 0
-HaveEachBefore inputs listings files place =
-    (shown : Shown) (input : ℕ) (of : IsCoveredBy inputs listings shown input) →
-    place_order (place_at shown input) place ≡ Less → HasFile files (name_at of.rule shown input)
-
--- the listings showed a path for which an input asks for native numbers without them, the first such in the order; not more
--- stand before it than a scan tells
+-- the listings showed a path for which an input asks for native numbers without them, the first such in the order
 pub record LacksNumbersFirst (inputs : List InputRule) (listings : List Listing) (path : List ℕ) : Type 0 where
   pub shown : Shown
   pub input : ℕ
@@ -132,9 +124,6 @@ pub record LacksNumbersFirst (inputs : List InputRule) (listings : List Listing)
   pub none : shown.entry.native ≡ None
   pub first : (other : Shown) (at : ℕ) (of : IsCoveredBy inputs listings other at) →
       of.rule.file_identity ≡ Native → other.entry.native ≡ None → place_order (place_at other at) (place_at shown input) ≢ Less
-  pub before : List Listed
-  pub few : length before ≤ MAX_FILES
-  pub every_before : HaveEachBefore inputs listings before (place_at shown input)
 
 -- by one listing for each glob
 pub record FindsNoNumbers (inputs : List InputRule) (told : FolderHistory) (path : List ℕ) (after : Option FolderHistory) : Type 0 where
@@ -142,31 +131,11 @@ pub record FindsNoNumbers (inputs : List InputRule) (told : FolderHistory) (path
   pub listed_is : AreListed (globs_of inputs) told listings after
   pub lacks : LacksNumbersFirst inputs listings path
 
--- they showed a file more than a scan tells, and this is its path: as many as a scan tells stand before it, all that do, and
--- none of them lacks its numbers
-pub record HasOneTooMany (inputs : List InputRule) (listings : List Listing) (path : List ℕ) : Type 0 where
-  pub before : List Listed
-  pub full : length before ≡ MAX_FILES
-  pub next : Listed
-  pub path_is : next.path ≡ path
-  pub only : AreOfShown inputs listings (before ++ next ∷ [])
-  pub every_before : HaveEachBefore inputs listings before (place_of next)
-  pub keyed : All (IsKeyed inputs) (before ++ next ∷ [])
-  pub in_order : AreInOrder (before ++ next ∷ [])
-  pub apart : AreApart (before ++ next ∷ [])
-
--- by one listing for each glob
-pub record FindsOneMore (inputs : List InputRule) (told : FolderHistory) (path : List ℕ) (after : Option FolderHistory) : Type 0 where
-  pub listings : List Listing
-  pub listed_is : AreListed (globs_of inputs) told listings after
-  pub one_more : HasOneTooMany inputs listings path
-
 -- what was done where a scan tells no file
 abbrev pub EndsAs : List InputRule → FolderHistory → ScanError → Option FolderHistory → Type 0
 EndsAs inputs told Failed after = ListsSome (globs_of inputs) told after
 EndsAs inputs told NoMemory after = ListsSome (globs_of inputs) told after
 EndsAs inputs told (NoNative path) after = FindsNoNumbers inputs told path after
-EndsAs inputs told (TooMany path) after = FindsOneMore inputs told path after
 
 -- a file within the ranges of a begin
 pub record IsListedInRange (listed : Listed) : Type 0 where

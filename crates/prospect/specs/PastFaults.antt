@@ -10,9 +10,9 @@ use Rattle.outside.specs.Folders.{Event, FolderHistory, ListingFailed}
 use Rattle.prospect.specs.declared.askings.Askings.{Askings}
 use Rattle.prospect.specs.declared.listed.Listed.{Listed}
 use Rattle.prospect.specs.declared.scan_error.ScanError.{ScanError}
-use Rattle.prospect.specs.declared.scan_error.ScanError.TheVariants.{Failed, NoMemory, NoNative, TooMany}
+use Rattle.prospect.specs.declared.scan_error.ScanError.TheVariants.{Failed, NoMemory, NoNative}
 use Rattle.prospect.specs.AskedFiles.{AskedFile, AsksOne, FailsSo, IsCutOff, gone_by, keyed_by, small_by}
-use Rattle.prospect.specs.ListedFiles.{AreFilesShown, HasOneTooMany, LacksNumbersFirst}
+use Rattle.prospect.specs.ListedFiles.{AreFilesShown, LacksNumbersFirst}
 use Rattle.prospect.specs.Members.{globs_of}
 use Rattle.prospect.specs.Scan.{AreListed, Listing, event_of, with_events}
 
@@ -77,7 +77,6 @@ abbrev pub RefusesBy : List InputRule → List Listing → ScanError → Type 0
 RefusesBy inputs listings Failed = ⊥
 RefusesBy inputs listings NoMemory = ⊥
 RefusesBy inputs listings (NoNative path) = LacksNumbersFirst inputs listings path
-RefusesBy inputs listings (TooMany path) = HasOneTooMany inputs listings path
 
 pub record ServesNoFiles (inputs : List InputRule) (told : FolderHistory) (failed : List (List ℕ)) (error : ScanError) (faults : ℕ) (after : Option FolderHistory) : Type 0 where
   pub tries : TriesGlobs (globs_of inputs) told failed faults after

@@ -8,7 +8,7 @@ use Rattle.outside.specs.declared.history.Shown.{Shown}
 use Rattle.outside.specs.Folders.{FolderHistory, Event, Listed}
 use Rattle.wire_base.specs.Ranges.{IsPath}
 use Rattle.prospect.specs.declared.scan_error.ScanError.{ScanError}
-use Rattle.prospect.specs.declared.scan_error.ScanError.TheVariants.{Failed as ScanFailed, NoMemory as ScanNoMemory, NoNative, TooMany}
+use Rattle.prospect.specs.declared.scan_error.ScanError.TheVariants.{Failed as ScanFailed, NoMemory as ScanNoMemory, NoNative}
 
 -- a listing of the root of a glob with its depth, and what it showed
 pub record Listing : Type 0 where
@@ -32,7 +32,6 @@ abbrev pub TellsPath : ScanError → Type 0
 TellsPath ScanFailed = Unit {0}
 TellsPath ScanNoMemory = Unit {0}
 TellsPath (NoNative path) = IsPath path
-TellsPath (TooMany path) = IsPath path
 
 -- what a scan answers where a listing answers so
 abbrev pub IsErrorOf : FolderError → ScanError → Type 0

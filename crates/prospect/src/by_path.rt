@@ -1,4 +1,4 @@
-ghost use Rattle.std.specs.Prelude.{◌≡◌, ◌<◌, ◌≤◌, ◌^◌, ◌∷◌, [], length, map, IfOk, IfErr, OnOk};
+ghost use Rattle.std.specs.Prelude.{◌≡◌, ◌<◌, ◌^◌, ◌∷◌, [], map, IfOk, IfErr, OnOk};
 ghost use Rattle.std.specs.BTreeMap.{IsOrdered, values};
 ghost use Rattle.prospect.specs.Covered.{AddsCovered, AreCovered, AreNumbers, CoversEntry, IsFileOf, IsKeyless, StopsAt, file_of, pair_of, pairs_for, pairs_of, pairs_with};
 ghost use Rattle.file_identity.specs.Key.{listed_key};
@@ -7,7 +7,6 @@ ghost use Rattle.prospect.specs.Readings.{reading_of};
 ghost use Rattle.wire_base.specs.KeyOrder.{compare};
 
 use crate::entries::Entries;
-use crate::files::MAX_FILES;
 use crate::scan_input::ScanInput;
 use crate::showing::Showing;
 use crate::{Listed, ScanError};
@@ -26,9 +25,8 @@ pub fn list_entries(
     ensures covered { IfOk result
         (λ listed. AreCovered (pairs_of (map reading_of inputs.now) (values entries))
         listed.items) }
-    ensures few { IfOk result (λ listed. length listed.items ≤ MAX_FILES) }
     ensures stops { IfErr result
-        (StopsAt (pairs_of (map reading_of inputs.now) (values entries)) []) }
+        (StopsAt (pairs_of (map reading_of inputs.now) (values entries))) }
     ensures ordered { IsOrdered compare entries }
 {
     let mut listed = Vec::new(alloc);
@@ -45,13 +43,11 @@ fn list_showing(
     showing: &Showing,
     listed: &mut Vec<Listed>,
 ) -> Result<(), ScanError>
-    requires { length listed.old.items ≤ MAX_FILES }
     ensures covered { OnOk result
         (AddsCovered (pairs_with (map reading_of inputs.now) showing.now)
         listed.old.items listed.new.items) }
-    ensures few { OnOk result (length listed.new.items ≤ MAX_FILES) }
     ensures stops { IfErr result
-        (StopsAt (pairs_with (map reading_of inputs.now) showing.now) listed.old.items) }
+        (StopsAt (pairs_with (map reading_of inputs.now) showing.now)) }
 {
     for input in inputs {
         list_for(alloc, input, showing, listed)?;
@@ -67,13 +63,11 @@ fn list_for(
     showing: &Showing,
     listed: &mut Vec<Listed>,
 ) -> Result<(), ScanError>
-    requires { length listed.old.items ≤ MAX_FILES }
     ensures covered { OnOk result
         (AddsCovered (pairs_for showing.now (reading_of input.now))
         listed.old.items listed.new.items) }
-    ensures few { OnOk result (length listed.new.items ≤ MAX_FILES) }
     ensures stops { IfErr result
-        (StopsAt (pairs_for showing.now (reading_of input.now)) listed.old.items) }
+        (StopsAt (pairs_for showing.now (reading_of input.now))) }
 {
     list_entry(alloc, input, &showing.first, listed)?;
     match input.identity {
@@ -88,14 +82,11 @@ fn list_others(
     others: &[Entry],
     listed: &mut Vec<Listed>,
 ) -> Result<(), ScanError>
-    requires { length listed.old.items ≤ MAX_FILES }
     ensures covered { OnOk result
         (AddsCovered (map (λ entry. pair_of entry (reading_of input.now)) others.now)
         listed.old.items listed.new.items) }
-    ensures few { OnOk result (length listed.new.items ≤ MAX_FILES) }
     ensures stops { IfErr result
-        (StopsAt (map (λ entry. pair_of entry (reading_of input.now)) others.now)
-        listed.old.items) }
+        (StopsAt (map (λ entry. pair_of entry (reading_of input.now)) others.now)) }
 {
     for entry in others {
         list_entry(alloc, input, entry, listed)?;
@@ -110,21 +101,16 @@ fn list_entry(
     entry: &Entry,
     listed: &mut Vec<Listed>,
 ) -> Result<(), ScanError>
-    requires { length listed.old.items ≤ MAX_FILES }
     ensures covered { OnOk result
         (AddsCovered (pair_of entry.now (reading_of input.now) ∷ [])
         listed.old.items listed.new.items) }
-    ensures few { OnOk result (length listed.new.items ≤ MAX_FILES) }
     ensures stops { IfErr result
-        (StopsAt (pair_of entry.now (reading_of input.now) ∷ []) listed.old.items) }
+        (StopsAt (pair_of entry.now (reading_of input.now) ∷ [])) }
 {
     if !input.covers(&entry.path) {
         return Ok(());
     }
     let file = file_of(alloc, input, entry)?;
-    if listed.len() >= MAX_FILES {
-        return Err(ScanError::TooMany { path: file.path });
-    }
     listed.push(file)?;
     Ok(())
 }

@@ -16,18 +16,15 @@ use glob_paths::Glob;
 use outside::{Folder, FolderError};
 use std::alloc::Global;
 
-/// The most files that a scan tells.
-pub const MAX_FILES: usize = 65_536;
-
 /// Lists the root of each glob once, in the order of the settings, and tells each path that a glob
 /// covers once for its input, in byte order of the paths and then by the inputs' places. A path
 /// that two listings showed with other native numbers is told once for each of them to an input
 /// that knows its files by these.
 ///
 /// What all listings showed together decides. `NoNative` has the first path in that order whose
-/// input asks for native numbers that were not told, and `TooMany` that of the first file too many.
-/// `NoMemory` means out of memory, or more than 4,294,967,296 inputs. A path is matched once with
-/// each glob, however often it is shown with the same native numbers.
+/// input asks for native numbers that were not told. `NoMemory` means out of memory, or more than
+/// 4,294,967,296 inputs. A path is matched once with each glob, however often it is shown with the
+/// same native numbers.
 pub fn list_files<F: Folder>(
     alloc: Global,
     folder: &mut F,
@@ -38,7 +35,6 @@ pub fn list_files<F: Folder>(
         (λ told. ScansFiles inputs.now told listed.items (F.told folder.new))) }
     ensures refused { IfErr result (λ error. IfSome (F.told folder.old)
         (λ told. EndsAs inputs.now told error (F.told folder.new))) }
-    ensures few { IfOk result (λ listed. length listed.items ≤ MAX_FILES) }
     ensures in_order { IfOk result (λ listed. AreInOrder listed.items) }
     ensures apart { IfOk result (λ listed. AreApart listed.items) }
     ensures keyed { IfOk result (λ listed. All (IsKeyed inputs.now) listed.items) }

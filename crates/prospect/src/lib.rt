@@ -26,7 +26,7 @@ mod showing;
 
 pub use asking::{Keyed, ask_files};
 pub use askings::{Askings, ask_past_faults};
-pub use files::{MAX_FILES, list_files};
+pub use files::list_files;
 pub use lack::first_lack;
 pub use listed::Listed;
 pub use listings::{Listings, list_past_faults};

@@ -9,7 +9,7 @@ ghost use Rattle.prospect.specs.Trying.{FailMoreOnlyByFaults, TriesMore};
 use crate::by_path::list_entries;
 use crate::entries::{Entries, add_entries};
 use crate::scan_input::{ScanInput, number_inputs};
-use crate::{Listed, MAX_FILES, ScanError};
+use crate::{Listed, ScanError};
 use event_tree::InputRule;
 use glob_paths::Glob;
 use outside::{Folder, FolderError};
@@ -19,8 +19,8 @@ use wire_base::{NoMemory, Text};
 /// What the listings of a scan came to that goes on past those that fail.
 #[derive(Debug, Drop)]
 pub struct Listings {
-    /// The files that the served listings showed, as `list_files` tells them; or the `NoNative` or
-    /// `TooMany` for which there is no such list.
+    /// The files that the served listings showed, as `list_files` tells them; or the `NoNative` for
+    /// which there is no such list.
     pub files: Result<Vec<Listed>, ScanError>,
     /// The roots whose listings failed, one for each, in the order of the settings. The scan is
     /// whole only if there is none; the first is the first fault.
@@ -59,7 +59,6 @@ pub fn list_past_faults<F: Folder>(
         (λ told. IsNoWholeList (globs_of inputs.now) told (F.told folder.new))) }
 
     // What is known of the files, whether or not the folder tells anything.
-    ensures few { IfOk result (λ all. IfOk all.files (λ files. length files.items ≤ MAX_FILES)) }
     ensures in_order { IfOk result (λ all. IfOk all.files (λ files. AreInOrder files.items)) }
     ensures apart { IfOk result (λ all. IfOk all.files (λ files. AreApart files.items)) }
     ensures keyed { IfOk result (λ all. IfOk all.files (λ files.

@@ -12,9 +12,6 @@ pub enum ScanError {
     NoMemory,
     /// An input knows its files by native numbers, and the listing told none for this path.
     NoNative { path: Text },
-    /// There are more than `MAX_FILES` files; the path is that of the first one too many, in byte
-    /// order of the paths and then by the inputs' places.
-    TooMany { path: Text },
 }
 
 impl fmt::Display for ScanError {
@@ -23,7 +20,6 @@ impl fmt::Display for ScanError {
             ScanError::Failed => "a listing failed",
             ScanError::NoMemory => "out of memory",
             ScanError::NoNative { .. } => "a file has no inode and device",
-            ScanError::TooMany { .. } => "there are too many files",
         })
     }
 }

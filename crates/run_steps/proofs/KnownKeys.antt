@@ -130,7 +130,7 @@ no_more_fresh rows (one ∷ listed) = no_more_with (is_none (row_of rows one.key
 few_keys : (rows : List Row) (listed : List Listed) → AreFewFiles rows listed → length (keys_in rows listed) ≤ 65_536
 few_keys rows listed few = let fewer = no_more_fresh rows listed in omega (arith, few, fewer, length-map rows key_of, length-append (map key_of rows) (fresh_keys rows listed))
 
-mapped : (rows : List Row) (row : Row) → Contains rows row → Contains (map key_of rows) row.key
+pub mapped : (rows : List Row) (row : Row) → Contains rows row → Contains (map key_of rows) row.key
 mapped [] row there = absurd (none_there row there)
 mapped (first ∷ rows) row there = ⊎_elim
     (λ same. subst (λ (r : Row). Contains (map key_of (first ∷ rows)) r.key) same (first_there first.key (map key_of rows)))

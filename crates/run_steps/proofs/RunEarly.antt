@@ -39,7 +39,7 @@ use Rattle.prospect.specs.Unfinished.{ListSome, ListsSome}
 use Rattle.prospect.specs.declared.asking.Keyed.{Keyed}
 use Rattle.prospect.specs.declared.listed.Listed.{Listed as ListedFile}
 use Rattle.prospect.specs.declared.scan_error.ScanError.{ScanError}
-use Rattle.prospect.specs.declared.scan_error.ScanError.TheVariants.{Failed, NoMemory, NoNative, TooMany}
+use Rattle.prospect.specs.declared.scan_error.ScanError.TheVariants.{Failed, NoMemory, NoNative}
 use Rattle.registry_store.specs.Choice.{GivesRows}
 use Rattle.registry_store.specs.Settled.{AreAtRest}
 use Rattle.rounds.specs.Images.{GivesFronts}
@@ -107,7 +107,6 @@ pub ended_some : (inputs : List InputRule) (told : FolderHistory) (error : ScanE
 ended_some inputs told Failed after ends = ends
 ended_some inputs told NoMemory after ends = ends
 ended_some inputs told (NoNative path) after ends = listed_all (globs_of inputs) told ends.listings after ends.listed_is
-ended_some inputs told (TooMany path) after ends = listed_all (globs_of inputs) told ends.listings after ends.listed_is
 
 -- none of them is an opening
 none_is_opening : (globs : List (List ℕ)) (more : List Event) (k : ℕ) (path : List ℕ) (number : ℕ) (begun : Sight) → ListSome globs more → slice_get more k ≡ Some (Opened path number begun) → ⊥

@@ -1,5 +1,6 @@
 ghost use Rattle.std.specs.Prelude.{◌≡◌, ◌+◌, ◌<◌, ◌≤◌, if◌then◌else◌, is_none, IfErr, IfOk, IfSome, IsNone, None, OnOk, length};
 ghost use Rattle.std.specs.Option.{option_copied};
+ghost use Rattle.prospect.specs.Doubled.{AreKeysApart};
 ghost use Rattle.restart_join.specs.Joining.{full_for};
 ghost use Rattle.restart_join.specs.Starts.{start_of};
 ghost use Rattle.wire_base.specs.Ranges.{IsRow};
@@ -16,12 +17,13 @@ use wire_base::{Row, Text};
 /// it is at least as long, at the next epoch and 0 where it is shorter, and without a row at epoch 0 and 0.
 ///
 /// `TooMany` names what stands at its limit, and the path of the first file that needs one more: files, counted with all rows; or
-/// epochs, where a file is shorter than its row's offset.
+/// epochs, where a file is shorter than its row's offset. The files have different keys, so they are no more than are counted.
 pub fn starts_of(alloc: Global, rows: &Rows, listed: &[Listed]) -> Result<Vec<Start>, JoinError>
     requires few_rows { length rows.now ≤ 65_536 }
-    requires few_listed { length listed.now ≤ 65_536 }
+    requires apart { AreKeysApart listed.now }
     ensures starts { IfOk result (λ starts. starts.items ≡ starts_among rows.now listed.now) }
     ensures few { OnOk result (AreFewFiles rows.now listed.now) }
+    ensures few_listed { OnOk result (length listed.now ≤ 65_536) }
     ensures room { OnOk result (HaveRoomBefore rows.now listed.now (length listed.now)) }
     ensures refused { IfErr result (RefusesStarts rows.now listed.now) }
 {
@@ -69,7 +71,7 @@ fn start_at(
     files: usize,
     place: usize,
 ) -> Result<Start, JoinError>
-    requires few_listed { place < 65_536 }
+    requires few_listed { place ≤ 65_536 }
     ensures started { IfOk result (λ start.
         start ≡ start_of listed.now.size (option_copied row.entry)) }
     ensures room { OnOk result

@@ -5,7 +5,6 @@ use Rattle.prospect.proofs.by_path.list_entries.Goals as goal
 pub loop-path-preserved : goal.loop-path-preserved
 loop-path-preserved c = record {
   covered = adds_next_path _ _ _ _ _ c.loop-path.invariant.covered c.in_ok-list_showing.ensures.covered;
-  few = c.in_ok-list_showing.ensures.few;
 }
 
 pub returns-in_err-list_showing-clause-stops : goal.returns-in_err-list_showing-clause-stops

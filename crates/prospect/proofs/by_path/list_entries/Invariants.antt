@@ -1,5 +1,4 @@
-use Rattle.std.proofs.Common.{◌≤◌, length, map}
-use Rattle.prospect.specs.declared.files.TheConstants.{MAX_FILES}
+use Rattle.std.proofs.Common.{map}
 use Rattle.prospect.specs.Covered.{AreCovered, pairs_of}
 use Rattle.prospect.specs.Readings.{reading_of}
 use Rattle.prospect.proofs.Covering.{showing_by}
@@ -8,5 +7,4 @@ use Rattle.prospect.proofs.by_path.list_entries.Given as goal
 abbrev pub invariant-loop-path : goal.invariant-loop-path
 invariant-loop-path l = record {
   covered : AreCovered (pairs_of (map reading_of l.inputs) (map showing_by l.yielded)) l.listed.items;
-  few : length l.listed.items ≤ MAX_FILES;
 }

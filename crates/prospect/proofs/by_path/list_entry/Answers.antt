@@ -1,7 +1,7 @@
-use Rattle.std.proofs.Common.{ap, ◌∙◌, ◌++◌, ◌∷◌, [], arith, rules}
+use Rattle.std.proofs.Common.{ap, ◌∙◌, ◌++◌, ◌∷◌, [], rules}
 use Rattle.std.proofs.lemmas.Result.{err_from_is_err_and}
 use Rattle.prospect.specs.declared.listed.Listed.{Listed}
-use Rattle.prospect.proofs.Covering.{adds_covered, adds_uncovered, keyless_here, stops_here}
+use Rattle.prospect.proofs.Covering.{adds_covered, adds_uncovered, keyless_here}
 use Rattle.prospect.proofs.by_path.list_entry.Goals as goal
 
 pub returns-then-not-covers-clause-covered : goal.returns-then-not-covers-clause-covered
@@ -12,12 +12,7 @@ returns-clause-covered c =
     adds_covered _ _ _ c.in_ok-file.ensures.is_one
     (c.in_ok-push.ensures.items ∙ ap (λ (one : Listed). c.args.listed.now.items ++ one ∷ []) c.in_ok-file.ensures.file)
 
-pub returns-then-len-ge-MAX_FILES-clause-stops : goal.returns-then-len-ge-MAX_FILES-clause-stops
-returns-then-len-ge-MAX_FILES-clause-stops c =
-    stops_here _ _ _ c.in_ok-file.ensures.is_one
-    (omega (arith, c.requires, c.if-len-ge-MAX_FILES.true, c.len.ensures)) (ap (λ (one : Listed). one.path) c.in_ok-file.ensures.file)
-
 pub returns-in_err-file-clause-stops : goal.returns-in_err-file-clause-stops
 returns-in_err-file-clause-stops c =
     let p = err_from_is_err_and c.from_residual.result c.from_residual.ensures.1 in
-    rw (p.1, p.2) (keyless_here _ _ _ c.requires (c.covers.ensures.0 c.if-not-covers.false) c.in_err-file.ensures.untold)
+    rw (p.1, p.2) (keyless_here _ _ (c.covers.ensures.0 c.if-not-covers.false) c.in_err-file.ensures.untold)

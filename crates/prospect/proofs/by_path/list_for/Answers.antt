@@ -5,7 +5,7 @@ use Rattle.prospect.proofs.by_path.list_for.Goals as goal
 pub returns-in_err-list_entry-clause-stops : goal.returns-in_err-list_entry-clause-stops
 returns-in_err-list_entry-clause-stops c =
     let p = err_from_is_err_and c.from_residual.result c.from_residual.ensures.1 in
-    rw (p.1, p.2) (stops_at_first _ _ _ _ c.in_err-list_entry.ensures.stops)
+    rw (p.1, p.2) (stops_at_first _ _ _ c.in_err-list_entry.ensures.stops)
 
 pub returns-in-Native-clause-covered : goal.returns-in-Native-clause-covered
 returns-in-Native-clause-covered c =

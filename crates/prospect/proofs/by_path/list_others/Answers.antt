@@ -3,12 +3,11 @@ use Rattle.prospect.proofs.Covering.{adds_next_other, adds_no_file, stops_at_oth
 use Rattle.prospect.proofs.by_path.list_others.Goals as goal
 
 pub loop-entry-init : goal.loop-entry-init
-loop-entry-init c = record { covered = adds_no_file _; few = c.requires }
+loop-entry-init c = record { covered = adds_no_file _ }
 
 pub loop-entry-preserved : goal.loop-entry-preserved
 loop-entry-preserved c = record {
   covered = adds_next_other _ _ _ c.entry-item.result _ _ _ c.loop-entry-test.true c.entry-item.is c.loop-entry.invariant.covered c.in_ok-list_entry.ensures.covered;
-  few = c.in_ok-list_entry.ensures.few;
 }
 
 pub returns-in_err-list_entry-clause-stops : goal.returns-in_err-list_entry-clause-stops

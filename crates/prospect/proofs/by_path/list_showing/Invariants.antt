@@ -1,5 +1,4 @@
-use Rattle.std.proofs.Common.{◌≤◌, length, map, take}
-use Rattle.prospect.specs.declared.files.TheConstants.{MAX_FILES}
+use Rattle.std.proofs.Common.{map, take}
 use Rattle.prospect.specs.Covered.{AddsCovered, pairs_with}
 use Rattle.prospect.specs.Readings.{reading_of}
 use Rattle.prospect.proofs.by_path.list_showing.Given as goal
@@ -7,5 +6,4 @@ use Rattle.prospect.proofs.by_path.list_showing.Given as goal
 abbrev pub invariant-loop-input : goal.invariant-loop-input
 invariant-loop-input l = record {
   covered : AddsCovered (pairs_with (map reading_of (take l.input-index l.inputs)) l.showing) l.initial.listed.items l.listed.items;
-  few : length l.listed.items ≤ MAX_FILES;
 }

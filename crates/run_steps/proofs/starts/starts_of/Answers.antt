@@ -1,9 +1,11 @@
-use Rattle.std.proofs.Common.{◌≡◌, ◌+◌, ◌∙◌, length, Option, None, if◌then◌else◌, is_none, ℕ, ap, refl, subst, arith}
+use Rattle.std.proofs.Common.{◌≡◌, ◌+◌, ◌∙◌, length, take, Option, None, if◌then◌else◌, is_none, ℕ, ap, refl, subst, arith}
+use Rattle.std.proofs.lemmas.List.{length-take}
 use Rattle.std.proofs.lemmas.Option.{slice_get_read}
 use Rattle.restart_join.specs.Joining.{full_for}
 use Rattle.restart_join.specs.Starts.{start_of}
 use Rattle.wire_base.specs.declared.row.Row.{Row}
 use Rattle.run_steps.specs.BeginFor.{row_of}
+use Rattle.run_steps.proofs.FewListed.{apart_in_front, few_listed, no_more_listed}
 use Rattle.run_steps.proofs.Starting.{counted_next, few_next, room_next, starts_next}
 use Rattle.run_steps.proofs.starts.starts_of.Goals as goal
 
@@ -28,3 +30,13 @@ files-preserved c =
 -- all files were looked at
 pub returns-clause-room : goal.returns-clause-room
 returns-clause-room c = λ earlier one less is. c.files.invariant.room earlier one (omega (arith, less, c.files-test.false)) is
+
+-- files of different keys are no more than are counted
+pub start_at-requires : goal.start_at-requires
+start_at-requires c =
+    let front = take c.files.place c.args.listed.now in
+    let fewer = no_more_listed c.args.rows.now front (apart_in_front c.files.place c.args.listed.now c.requires.apart) in
+    omega (arith, fewer, length-take c.files.place c.args.listed.now, c.files.invariant.counted, c.files.invariant.few, c.files-test.true)
+
+pub returns-clause-few_listed : goal.returns-clause-few_listed
+returns-clause-few_listed c = few_listed c.args.rows.now c.args.listed.now c.requires.apart _
