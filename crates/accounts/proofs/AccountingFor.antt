@@ -4,7 +4,7 @@ use Rattle.std.specs.List.{AllByRecursion}
 use Rattle.kept_rows.specs.Account.{Place, SlotAccount, slot_of}
 use Rattle.kept_rows.specs.Backed.{AreBacked, AreBegun, AreInRows}
 use Rattle.kept_rows.specs.Epochs.{AreNumbered}
-use Rattle.kept_rows.specs.Run.{Run, Scan}
+use Rattle.kept_rows.specs.Run.{Run}
 use Rattle.ship_core.proofs.Members.{given_there}
 use Rattle.ship_core.specs.RowsOver.{slot_for, slots_for}
 use Rattle.wire_base.proofs.ByteOrder.{compare_same}
@@ -35,27 +35,27 @@ use Rattle.accounts.proofs.Orderly.{are_in_rows, member_is}
 use Rattle.accounts.proofs.Places.{have_places}
 use Rattle.accounts.proofs.Sending.{sent_only}
 
-module _ (run : Run) (scan : Scan) (files : List Filed) (hiddens : List Hidden) (workers : List Taken) (notes : RunNotes) (told : RunTold run scan files hiddens workers notes) where
-  each_adjoins : (some : List Filed) → AllByRecursion (IsFollowedFile run scan) some → AllByRecursion (λ (file : Filed). EachAdjoins (tellings_in (turned_in file).history)) some
+module _ (run : Run) (files : List Filed) (hiddens : List Hidden) (workers : List Taken) (notes : RunNotes) (told : RunTold run files hiddens workers notes) where
+  each_adjoins : (some : List Filed) → AllByRecursion (IsFollowedFile run) some → AllByRecursion (λ (file : Filed). EachAdjoins (tellings_in (turned_in file).history)) some
   each_adjoins [] each = tt
-  each_adjoins (file ∷ some) each = ((file_in_epochs run scan file each.0).adjoin, each_adjoins some each.1)
+  each_adjoins (file ∷ some) each = ((file_in_epochs run file each.0).adjoin, each_adjoins some each.1)
 
-  each_is_numbered : (placed : Parcel → Option Place) (some : List Filed) → AllByRecursion (IsFollowedFile run scan) some → AllByRecursion AreNumbered (accounts_of placed some)
+  each_is_numbered : (placed : Parcel → Option Place) (some : List Filed) → AllByRecursion (IsFollowedFile run) some → AllByRecursion AreNumbered (accounts_of placed some)
   each_is_numbered placed [] each = tt
-  each_is_numbered placed (file ∷ some) each = ((slot_has_epochs run scan told.by placed file each.0).numbered, each_is_numbered placed some each.1)
+  each_is_numbered placed (file ∷ some) each = ((slot_has_epochs run placed file each.0).numbered, each_is_numbered placed some each.1)
 
   module _ (placed : Parcel → Option Place) (places : ArePlaces placed workers run.trace.wires) where
     abbrev account : List SlotAccount
     account = with_hidden (accounts_of placed files) hiddens
 
     pub in_rows : AreInRows account
-    in_rows = in_rows_with_hidden (accounts_of placed files) hiddens (are_in_rows placed files (are_filed run scan files told.followed.each) (each_adjoins files told.followed.each)
+    in_rows = in_rows_with_hidden (accounts_of placed files) hiddens (are_in_rows placed files (are_filed run files told.followed.each) (each_adjoins files told.followed.each)
         (each_is_numbered placed files told.followed.each))
 
     pub backed : AreBacked account run.trace.wires notes.all
     backed =
-        are_backed placed run.trace.wires files (slots_apart 0 files told.followed.slots) (are_filed run scan files told.followed.each) (acknowledged_in workers) places.well
-        hiddens told.behind notes.all (are_notes run scan files hiddens workers notes told).each
+        are_backed placed run.trace.wires files (slots_apart 0 files told.followed.slots) (are_filed run files told.followed.each) (acknowledged_in workers) places.well
+        hiddens told.behind notes.all (are_notes run files hiddens workers notes told).each
 
     hidden_is_begun : (hidden : Hidden) → Contains notes.all (hidden_begin hidden) → Contains (slots_for (hidden_key hidden) notes.all) (hidden_slot hidden)
     hidden_is_begun hidden there =
@@ -63,7 +63,7 @@ module _ (run : Run) (scan : Scan) (files : List Filed) (hiddens : List Hidden) 
 
     pub begun : AreBegun account notes.all
     begun =
-        let are = are_notes run scan files hiddens workers notes told in
+        let are = are_notes run files hiddens workers notes told in
         has_with_hidden (λ (one : SlotAccount). Contains (slots_for one.following.key notes.all) (slot_of one)) (accounts_of placed files) hiddens
         (are_begun placed notes.all files are.begun)
         (λ hidden there. hidden_is_begun hidden (member_is (λ (h : Hidden). Contains notes.all (hidden_begin h)) hiddens hidden are.hidden_begun there))
@@ -73,16 +73,16 @@ module _ (run : Run) (scan : Scan) (files : List Filed) (hiddens : List Hidden) 
 
     pub accounts_for : AccountsFor run account notes.all
     accounts_for = record {
-      followed = followed_with_hidden run scan hiddens told.may_go (accounts_of placed files) told.behind.least below told.behind.slots (files_apart run scan files hiddens workers notes told placed)
-          (are_followed run scan told.by placed files told.followed);
-      slots = slots_with_hidden run scan hiddens told.may_go (accounts_of placed files) (are_slot_accounts run scan told.by placed files told.followed places.one_each);
+      followed = followed_with_hidden run hiddens told.may_go (accounts_of placed files) told.behind.least below told.behind.slots (files_apart run files hiddens workers notes told placed)
+          (are_followed run told.by placed files told.followed);
+      slots = slots_with_hidden run hiddens told.may_go (accounts_of placed files) (are_slot_accounts run placed files told.followed places.one_each);
       sent = sent_with_hidden (accounts_of placed files) hiddens run.trace.wires
-          (sent_only placed run.trace.wires files (slots_apart 0 files told.followed.slots) (are_filed run scan files told.followed.each)
-          (turned_apart files told.followed.slots (have_slots run scan files told.followed.each)) (are_in_epochs run scan files told.followed.each)
-          workers notes.collected told.talks told.fits (told_once run scan files told.followed));
+          (sent_only placed run.trace.wires files (slots_apart 0 files told.followed.slots) (are_filed run files told.followed.each)
+          (turned_apart files told.followed.slots (have_slots run files told.followed.each)) (are_in_epochs run files told.followed.each)
+          workers notes.collected told.talks told.fits (told_once run files told.followed));
       orderly = told.mixed.orderly;
       ends = rows_are_kept account run.opening run.trace.wires notes.all in_rows backed begun;
-      begun = λ rows over. begun_keys_have_rows run scan files hiddens workers notes told placed rows over;
+      begun = λ rows over. begun_keys_have_rows run files hiddens workers notes told placed rows over;
       images = images_hold_kept_rows account run.opening run.trace.wires notes.all in_rows backed;
     }
 
@@ -94,6 +94,6 @@ module _ (run : Run) (scan : Scan) (files : List Filed) (hiddens : List Hidden) 
 
   pub is_accounted_for : IsAccountedFor
   is_accounted_for =
-      let once = acknowledged_once (turned_of files) workers notes.collected told.fits (told_once run scan files told.followed) in
+      let once = acknowledged_once (turned_of files) workers notes.collected told.fits (told_once run files told.followed) in
       let have = have_places workers run.trace.wires told.talks once in
       record { placed = have.placed; places = have.are; accounts = accounts_for have.placed have.are }

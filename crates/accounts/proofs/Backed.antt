@@ -86,6 +86,7 @@ module _ (placed : Parcel → Option Place) (wires : List WireTold) (files : Lis
           by_kind (inr is) = subst (Backs all wires) (sym is) (record {
             one = hidden_account of.hidden;
             slot_is = found;
+            gone = refl;
             earlier = [];
             last = record { epoch = of.hidden.row.epoch.0; start = of.hidden.row.offset; life = 0; readings = []; licences = []; told = [] };
             epochs_are = refl;

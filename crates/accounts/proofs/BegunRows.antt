@@ -10,8 +10,7 @@ use Rattle.std.specs.declared.cmp.Ordering.TheVariants.{Equal, Greater, Less}
 use Rattle.kept_rows.proofs.Begun.{row_of_one_slot}
 use Rattle.kept_rows.specs.Account.{Place, SlotAccount, key_of}
 use Rattle.kept_rows.specs.Lost.{IsRightlyLost}
-use Rattle.kept_rows.specs.Run.{Run, Scan}
-use Rattle.kept_rows.specs.Scans.{ShowsFileTo}
+use Rattle.kept_rows.specs.Run.{Run}
 use Rattle.ship_core.proofs.Members.{first_there, later_there}
 use Rattle.ship_core.specs.RowOver.{Start, notes_of, standing_row}
 use Rattle.ship_core.specs.Rows.{find}
@@ -24,7 +23,7 @@ use Rattle.wire_base.specs.declared.parcel.Parcel.{Parcel}
 use Rattle.wire_base.specs.declared.row.Row.{Row}
 use Rattle.accounts.specs.AccountedFor.{HasItsRow}
 use Rattle.accounts.specs.Filed.{Filed, IsNoted, accounts_of, slot_in, turned_of}
-use Rattle.accounts.specs.FollowedFile.{IsFollowedFile, key_in}
+use Rattle.accounts.specs.FollowedFile.{key_in}
 use Rattle.accounts.specs.Ground.{HasGround}
 use Rattle.accounts.specs.Hidden.{Hidden, IsApartFrom, hidden_account, hidden_begin, hidden_key, with_hidden}
 use Rattle.accounts.specs.RunTold.{RunNotes, RunTold}
@@ -32,7 +31,6 @@ use Rattle.accounts.specs.Same.{same_note}
 use Rattle.accounts.specs.Taken.{Taken, acknowledged_in}
 use Rattle.accounts.specs.ToldNotes.{AreNotesOf, IsKnownNote, MayTell}
 use Rattle.accounts.proofs.Grounded.{each_has_ground, each_member}
-use Rattle.accounts.proofs.HiddenFollowed.{each_may_go}
 use Rattle.accounts.proofs.HiddenLost.{lost}
 use Rattle.accounts.proofs.HiddenSlots.{has_with_hidden}
 use Rattle.accounts.proofs.LastNotes.{is_started, none_forgotten, one_slot}
@@ -72,7 +70,7 @@ found_key key (first ∷ rows) row is = by_case (compare key first.key) refl is 
 
 -- ---- of a run
 
-module _ (run : Run) (scan : Scan) (files : List Filed) (hiddens : List Hidden) (workers : List Taken) (notes : RunNotes) (told : RunTold run scan files hiddens workers notes) where
+module _ (run : Run) (files : List Filed) (hiddens : List Hidden) (workers : List Taken) (notes : RunNotes) (told : RunTold run files hiddens workers notes) where
   pub have_ground : AllByRecursion (HasGround (turned_of files) (acknowledged_in workers)) notes.collected
   have_ground = each_has_ground (turned_of files) workers notes.collected told.fits
 
@@ -111,24 +109,13 @@ module _ (run : Run) (scan : Scan) (files : List Filed) (hiddens : List Hidden) 
 
   -- ---- keys
 
-  -- the scan showed the key of each file, and of no hidden row
-  pub no_hidden_key : (file : Filed) → Contains files file → (hidden : Hidden) → Contains hiddens hidden → key_in file ≡ hidden_key hidden → ⊥
-  no_hidden_key file among hidden there same =
-      let followed = member_is (IsFollowedFile run scan) files file told.followed.each among in
-      (each_may_go run scan hiddens told.may_go hidden there).not_shown
-      (record {
-        number = followed.listed.number;
-        path = followed.shown.entry.path;
-        shows = record { shown = followed.shown; path_is = refl; shows = (file.opened.begin.input, subst (λ (k : List ℕ). ShowsFileTo run scan file.opened.begin.input k followed.listed.number followed.shown) same followed.listed.shows) };
-      })
-
   pub files_apart : (placed : Parcel → Option Place) → AllByRecursion (IsApartFrom hiddens) (accounts_of placed files)
   files_apart placed = each_apart files (λ file there. there)
     where
       each_apart : (some : List Filed) → ((file : Filed) → Contains some file → Contains files file) → AllByRecursion (IsApartFrom hiddens) (accounts_of placed some)
       each_apart [] among = tt
       each_apart (file ∷ some) among =
-          (λ hidden there same. no_hidden_key file (among file (first_there file some)) hidden there same, each_apart some (λ other there. among other (later_there file other some there)))
+          (λ hidden there same. told.behind.other_keys file (among file (first_there file some)) hidden there same, each_apart some (λ other there. among other (later_there file other some there)))
 
   -- ---- rows
 
@@ -149,7 +136,7 @@ module _ (run : Run) (scan : Scan) (files : List Filed) (hiddens : List Hidden) 
       let stands = own_row_stands (slot_in file) notes.all start (none_forgotten files hiddens (acknowledged_in workers) notes.all apart told.behind are_notes file among) started.is in
       let found = over.each (key_in file)
       ∙ row_of_one_slot run.opening notes.all (key_in file) (slot_in file) row
-      (one_slot files hiddens (acknowledged_in workers) notes.all apart told.behind are_notes file among told.followed.keys_apart (no_hidden_key file among)) stands in
+      (one_slot files hiddens (acknowledged_in workers) notes.all apart told.behind are_notes file among told.followed.keys_apart (told.behind.other_keys file among)) stands in
       record { start = start; key_is = refl; epoch_is = refl; base_is = refl; of_rows = found_there (key_in file) rows row found }
 
   module _ (placed : Parcel → Option Place) (rows : List Row) (over : AreRowsOver run.opening notes.all rows) where
@@ -168,7 +155,7 @@ module _ (run : Run) (scan : Scan) (files : List Filed) (hiddens : List Hidden) 
     hidden_has_or_lost hidden there = by_row (find (hidden_key hidden) rows) refl
       where
         by_row : (o : Option Row) → find (hidden_key hidden) rows ≡ o → HasRowOrLost (hidden_account hidden)
-        by_row None is = inr (lost run scan hiddens told.may_go (accounts_of placed files) run.trace.wires hidden there (files_apart placed))
+        by_row None is = inr (lost run hiddens told.may_go (accounts_of placed files) run.trace.wires hidden there (files_apart placed))
         by_row (Some row) is = inl (record { row = row; of_rows = found_there (hidden_key hidden) rows row is; key_is = found_key (hidden_key hidden) rows row is })
 
     pub begun_keys_have_rows : AllByRecursion HasRowOrLost (with_hidden (accounts_of placed files) hiddens)

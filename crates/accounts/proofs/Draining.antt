@@ -9,7 +9,7 @@ use Rattle.kept_rows.specs.Account.{Place, SlotAccount}
 use Rattle.kept_rows.specs.Drained.{HasRow, IsChanged, IsDoneWith, IsDrainedBySlots, IsPassedOver, IsReadToItsEnd}
 use Rattle.kept_rows.specs.Premises.{SeesTruncationsOf}
 use Rattle.kept_rows.specs.Run.{Run, Scan}
-use Rattle.kept_rows.specs.Scans.{IsCovered, IsWhole, ShowsEntry, ShowsFileTo}
+use Rattle.kept_rows.specs.Scans.{IsCovered, ShowsEntry, ShowsFileTo}
 use Rattle.kept_rows.specs.Trace.{IsTail}
 use Rattle.outside.specs.declared.history.Look.{Look}
 use Rattle.outside.specs.declared.history.Shown.{Shown}
@@ -21,12 +21,11 @@ use Rattle.slot_parts.specs.Tails.{tails_of}
 use Rattle.told_events.specs.Told.{spans_of}
 use Rattle.wire_base.specs.declared.parcel.Parcel.{Parcel}
 use Rattle.wire_base.specs.declared.row.Row.{Row}
-use Rattle.accounts.specs.RunDone.{IsAmongFiles, IsFullScan, RunDone, IsToldWhole}
+use Rattle.accounts.specs.RunDone.{IsAmongFiles, RunDone, IsToldWhole}
 use Rattle.accounts.specs.Accounted.{followed_tail}
 use Rattle.accounts.specs.Filed.{Filed, Opening, account_of, accounts_of, slot_in, tail_by, told_over, turned_in}
 use Rattle.accounts.specs.FollowedFile.{IsFollowedFile, key_in, tail_of}
 use Rattle.accounts.specs.Hidden.{Hidden, with_hidden}
-use Rattle.accounts.specs.OneScan.{IsByOneScan}
 use Rattle.accounts.specs.Parted.{kept_looks}
 use Rattle.accounts.specs.RunTold.{RunNotes, RunTold}
 use Rattle.accounts.specs.Taken.{Taken, acknowledged_in}
@@ -45,17 +44,6 @@ use Rattle.accounts.proofs.Orderly.{member_is}
 use Rattle.accounts.proofs.Segmented.{is_lost}
 use Rattle.accounts.proofs.Slots.{tells_both}
 
--- ---- the scan
-
--- a full scan met no fault
-pub whole_by_entries : (run : Run) (scan : Scan) → IsByOneScan run scan → IsFullScan run scan → IsWhole run scan
-whole_by_entries run scan by full = record {
-  not_cut_off = full.not_cut_off;
-  none_failed = full.none_failed;
-  each_asked = full.each_asked;
-  none_faulty = by.asked_well;
-}
-
 -- ---- its files
 
 same_rule : (rules : List InputRule) (input other : ℕ) (rule another : InputRule) → slice_get rules input ≡ Some rule → slice_get rules other ≡ Some another → input ≡ other → rule ≡ another
@@ -65,15 +53,13 @@ same_rule rules input other rule another is and same =
 no_look : (fall : Look) (later : List Look) → fall ∷ later ≡ [] → ⊥
 no_look fall later none = cc
 
-module _ (run : Run) (scan : Scan) (files : List Filed) (hiddens : List Hidden) (workers : List Taken) (notes : RunNotes) (told : RunTold run scan files hiddens workers notes)
-    (done : RunDone run scan files workers notes) (placed : Parcel → Option Place)
+-- of a run that made one scan
+module _ (run : Run) (scan : Scan) (files : List Filed) (hiddens : List Hidden) (workers : List Taken) (notes : RunNotes) (told : RunTold run files hiddens workers notes)
+    (done : RunDone run scan files workers notes) (only : run.scans ≡ scan ∷ []) (placed : Parcel → Option Place)
     (rows : List Row) (over : AreRowsOver run.opening notes.all rows) where
-  is_whole : IsWhole run scan
-  is_whole = whole_by_entries run scan told.by done.full
-
   module _ (file : Filed) (among : Contains files file) where
-    followed : IsFollowedFile run scan file
-    followed = member_is (IsFollowedFile run scan) files file told.followed.each among
+    followed : IsFollowedFile run file
+    followed = member_is (IsFollowedFile run) files file told.followed.each among
 
     whole : IsToldWhole run scan notes.all file
     whole = member_is (IsToldWhole run scan notes.all) files file done.whole among
@@ -92,15 +78,15 @@ module _ (run : Run) (scan : Scan) (files : List Filed) (hiddens : List Hidden) 
 
     has_its_row : (row : Row) × IsItsRow row
     has_its_row =
-        let numbered = file_epochs run scan file followed in
+        let numbered = file_epochs run file followed in
         let apart = slots_apart 0 files told.followed.slots in
-        let slots = have_slots run scan files told.followed.each in
-        let are = are_notes run scan files hiddens workers notes told in
-        let within = collected_in_all run scan files hiddens workers notes told in
-        let begun = begun_row run scan files hiddens workers notes told file among rows over in
-        let epochs = are_in_epochs run scan files told.followed.each in
+        let slots = have_slots run files told.followed.each in
+        let are = are_notes run files hiddens workers notes told in
+        let within = collected_in_all run files hiddens workers notes told in
+        let begun = begun_row run files hiddens workers notes told file among rows over in
+        let epochs = are_in_epochs run files told.followed.each in
         let epoch = epoch_is files hiddens workers notes.all notes.collected apart told.behind (turned_apart files told.followed.slots slots) epochs slots are within done.settled file among numbered in
-        let in_epochs = file_in_epochs run scan file followed in
+        let in_epochs = file_in_epochs run file followed in
         let adjoin : Adjoin present.start (spans_of present.told) =
         last_of_each (λ (t : Telling). Adjoin t.start (spans_of t.told)) (turned_in file).history.past present in_epochs.adjoin in
         let offset = offset_is files hiddens workers notes.all notes.collected apart told.behind (turned_apart files told.followed.slots slots) epochs slots are within done.settled file among
@@ -118,13 +104,13 @@ module _ (run : Run) (scan : Scan) (files : List Filed) (hiddens : List Hidden) 
 
     row_is_read : IsToldToItsEnd file.turned.history → (row : Row) → IsItsRow row → IsReadToItsEnd SeesTruncationsOf run file.opened.rule (accounts_of placed files) row
     row_is_read ended row is =
-        is_read_to_its_end run placed files file.opened file.turned (tail_of file) file.changed (slots_apart 0 files told.followed.slots) once_there followed.told followed.gave
+        is_read_to_its_end run placed files file.opened file.turned (tail_of file) file.changed file.known_from (slots_apart 0 files told.followed.slots) once_there followed.told followed.gave
         followed.in_range followed.file_is
         ended row (sym is.key_is) (is.epoch_so ∙ ap (λ (h : History). h.present.epoch) told_once) (is.offset_so ∙ ap (λ (h : History). told_to h.present) told_once)
       where
         -- it was opened once
-        once_there : Contains files (record { opened = file.opened; turned = file.turned; looks = file.looks; changed = file.changed; later = [] })
-        once_there = subst (λ (later : List Opening). Contains files (record { opened = file.opened; turned = file.turned; looks = file.looks; changed = file.changed; later = later })) whole.alone among
+        once_there : Contains files (record { opened = file.opened; turned = file.turned; looks = file.looks; changed = file.changed; known_from = file.known_from; later = [] })
+        once_there = subst (λ (later : List Opening). Contains files (record { opened = file.opened; turned = file.turned; looks = file.looks; changed = file.changed; known_from = file.known_from; later = later })) whole.alone among
 
         told_once : (turned_in file).history ≡ file.turned.history
         told_once = ap (told_over file.turned.history) whole.alone
@@ -186,8 +172,8 @@ module _ (run : Run) (scan : Scan) (files : List Filed) (hiddens : List Hidden) 
   files_drained : IsDrainedBySlots run (accounts_of placed files) rows
   files_drained = record {
     scan = scan;
-    first = ap (λ (l : List Scan). slice_get l 0) told.by.only;
-    whole = is_whole;
+    first = ap (λ (l : List Scan). slice_get l 0) only;
+    whole = done.full.whole;
     each = λ shown input rule entry rule_is covered. by_case shown input rule entry rule_is covered (done.served shown input rule entry rule_is covered);
   }
     where
@@ -266,6 +252,6 @@ module _ (run : Run) (scan : Scan) (files : List Filed) (hiddens : List Hidden) 
   is_drained = record {
     scan = scan;
     first = files_drained.first;
-    whole = is_whole;
+    whole = done.full.whole;
     each = λ shown input rule entry rule_is covered. done_with_hidden rule shown input (files_drained.each shown input rule entry rule_is covered);
   }

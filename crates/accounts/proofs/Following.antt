@@ -1,20 +1,23 @@
--- How the files of a run are followed that made one scan.
-use Rattle.std.proofs.Common.{◌≡◌, ◌⊎◌, inl, ℕ, zero, suc, ◌+◌, ◌<◌, List, [], ◌∷◌, ◌++◌, Contains, map, Option, Some, None, refl, sym, ap, subst, arith}
+-- How the files of a run are followed.
+use Rattle.std.proofs.Common.{◌≡◌, ◌⊎◌, inl, inr, ℕ, zero, suc, ◌+◌, List, [], ◌∷◌, ◌++◌, Contains, length, map, Option, Some, None, refl, sym, ap, subst, ◌∙◌}
 use Rattle.std.specs.Prelude.{slice_get}
 use Rattle.std.specs.List.{AllByRecursion, flat_map}
 use Rattle.harvester.specs.History.{History}
 use Rattle.kept_rows.specs.Account.{FollowedTail, Following, Place, SlotAccount}
-use Rattle.kept_rows.specs.Followed.{AreFollowed, AreInTurn, AreRising, IsFollowedTail, IsFollowing, IsGoneBefore, IsNewlyKnown, OnlyReads, asked_openings, followed_openings}
+use Rattle.kept_rows.specs.Followed.{AreFollowed, AreInTurn, AreRising, HadNoRow, HasWent, IsBegun, IsFollowedTail, IsFollowing, IsGoneBefore, IsNewlyKnown, IsUnknownFrom, OnlyReads, StartsAt, asked_openings, followed_openings, start_of}
 use Rattle.kept_rows.specs.Askings.{AsksInOrder}
 use Rattle.kept_rows.specs.Run.{Run, Scan}
-use Rattle.kept_rows.specs.Scans.{AllButTheLast, AreAsked, AreDistinct, IsFirstPath}
-use Rattle.ship_core.proofs.Members.{first_there, later_there}
+use Rattle.kept_rows.specs.Scans.{AreDistinct, IsFirstPath, ShowsFileTo}
+use Rattle.outside.specs.declared.history.Shown.{Shown}
+use Rattle.ship_core.proofs.Members.{first_there, later_there, none_there}
+use Rattle.ship_core.specs.Rows.{find}
 use Rattle.wire_base.specs.declared.parcel.Parcel.{Parcel}
 use Rattle.slot_parts.specs.Tails.{tails_of}
-use Rattle.accounts.specs.Filed.{Filed, Opening, account_of, accounts_of, first_opening, tail_by, told_both}
-use Rattle.accounts.specs.FollowedFile.{AreFollowedFiles, AreInSlots, AreReopened, IsFollowedFile, key_in, openings_in}
-use Rattle.accounts.specs.OneScan.{IsByOneScan}
+use Rattle.accounts.specs.ByScans.{IsByScans, IsToldScan}
+use Rattle.accounts.specs.Filed.{Filed, Opening, account_of, accounts_of, first_opening, following_of, tail_by, told_both}
+use Rattle.accounts.specs.FollowedFile.{AreFollowedFiles, AreInSlots, AreReopened, BeganEarlier, BeginsThere, IsFollowedFile, begins_by, key_in, openings_in}
 use Rattle.accounts.specs.Opened.{Opened}
+use Rattle.accounts.proofs.Lists.{each_then, got_behind}
 use Rattle.accounts.proofs.NamedKeys.{given_key_of_input}
 use Rattle.accounts.proofs.Openings.{are_one_by_one, first_is_opening, tail_follows}
 
@@ -45,43 +48,75 @@ later_follow : (run : Run) (first : Opened) (last : Opening) (so_far : History) 
 later_follow run first last so_far [] are = tt
 later_follow run first last so_far (next ∷ later) are = (tail_follows run first next are.0.is, later_follow run first next (told_both so_far next.history) later are.1)
 
-module _ (run : Run) (scan : Scan) (by : IsByOneScan run scan) where
-  -- ---- a file
+-- ---- with what a slot begins
 
-  module _ (file : Filed) (is : IsFollowedFile run scan file) where
-    pub scan_is : slice_get run.scans 0 ≡ Some scan
-    scan_is = ap (λ (l : List Scan). slice_get l 0) by.only
+-- by the scan from which on its key is known
+starts_at : (run : Run) (scan : Scan) (following : Following) (input number : ℕ) (shown : Shown) → ShowsFileTo run scan input following.key number shown →
+    IsFirstPath run scan following.key number shown.entry.path → (place : ℕ) → start_of following ≡ begins_by place (find following.key run.opening) shown.entry.size →
+    StartsAt place run scan following
+starts_at run scan following input number shown shows first zero starts = inl (record { number = number; shown = shown; shows = (input, shows); first = first; starts = starts })
+starts_at run scan following input number shown shows first (suc earlier) starts = record {
+  shows = record { number = number; path = shown.entry.path; shows = record { shown = shown; path_is = refl; shows = (input, shows) } };
+  starts = starts;
+}
 
-    module _ (placed : Parcel → Option Place) where
-      pub is_following : IsFollowing run (account_of placed file).following
-      is_following = record {
-        rule = file.opened.rule;
-        rule_is = is.rule_is;
-        key_of_input = given_key_of_input file.opened.rule.id file.opened.rule.file_identity file.opened.begin.path file.opened.file file.opened.asked file.opened.begin.key is.gave.gave;
-        begun = record {
-          scan = scan;
-          scan_is = scan_is;
-          starts = inl (record {
-            number = is.listed.number;
-            shown = is.shown;
-            shows = (file.opened.begin.input, is.listed.shows);
-            first = subst (IsFirstPath run scan file.opened.begin.key is.listed.number) (sym is.listed.path_is) is.listed.first;
-            starts = is.listed.starts;
-          });
-        };
-        tails = (
-          tail_follows run file.opened (first_opening file) (first_is_opening run scan file is),
-          later_follow run file.opened (first_opening file) file.turned.history file.later is.reopened,
-        );
-        one_by_one = are_one_by_one run file.opened is.in_range (first_opening file) file.turned.history file.later is.reopened;
-      }
+module _ (run : Run) (file : Filed) (is : IsFollowedFile run file) where
+  is_begun : IsBegun run (following_of file)
+  is_begun = by_case is.listed.begins
+    where
+      by_case : BeginsThere run file is.listed.last ⊎ BeganEarlier run file is.listed.last → IsBegun run (following_of file)
+      by_case (inl there) =
+          let last = is.listed.last in
+          record {
+            scan = last.scan;
+            scan_is = ap (slice_get run.scans) there.number_is ∙ ap (λ (l : List Scan). slice_get l (length last.front)) last.scans_are ∙ got_behind last.front last.scan last.behind;
+            starts = starts_at run last.scan (following_of file) file.opened.begin.input last.number last.shown last.shows
+                (subst (IsFirstPath run last.scan file.opened.begin.key last.number) (sym last.path_is) last.first) file.known_from there.starts;
+          }
+      by_case (inr earlier) = earlier.begun
 
+  module _ (placed : Parcel → Option Place) where
+    pub is_following : IsFollowing run (account_of placed file).following
+    is_following = record {
+      rule = file.opened.rule;
+      rule_is = is.rule_is;
+      key_of_input = given_key_of_input file.opened.rule.id file.opened.rule.file_identity file.opened.begin.path file.opened.file file.opened.asked file.opened.begin.key is.gave.gave;
+      begun = is_begun;
+      tails = (
+        tail_follows run file.opened (first_opening file) (first_is_opening run file is),
+        later_follow run file.opened (first_opening file) file.turned.history file.later is.reopened,
+      );
+      one_by_one = are_one_by_one run file.opened is.in_range (first_opening file) file.turned.history file.later is.reopened;
+    }
+
+-- ---- keys that became known later
+
+-- also among more slots
+pub newly_among : (run : Run) (some more : List Following) (one : Following) → ((other : Following) → Contains some other → Contains more other) →
+    IsNewlyKnown run some one → IsNewlyKnown run more one
+newly_among run some more one there new later =
+    let known = new later in record { no_row = by_row known.no_row; since = known.since; unknown = by_scan known.since known.unknown; hidden = known.hidden }
+  where
+    went_among : (last : ℕ) → HasWent some one last → HasWent more one last
+    went_among last went =
+        record { earlier = went.earlier; among = there went.earlier went.among; before = went.before; key_is = went.key_is; gone = went.gone }
+
+    by_row : HadNoRow run some one → HadNoRow run more one
+    by_row (inl none) = inl none
+    by_row (inr went) = inr (went.0, went_among went.0 went.1)
+
+    by_scan : (since : ℕ) → IsUnknownFrom run some one since → IsUnknownFrom run more one since
+    by_scan since (inl first) = inl first
+    by_scan since (inr (inl went)) = inr (inl (went.0, went_among went.0 went.1, went.2))
+    by_scan since (inr (inr whole)) = inr (inr whole)
+
+module _ (run : Run) where
   -- ---- all files
 
   module _ (placed : Parcel → Option Place) where
-    are_following : (files : List Filed) → AllByRecursion (IsFollowedFile run scan) files → AllByRecursion (IsFollowing run) (followings_of placed files)
+    are_following : (files : List Filed) → AllByRecursion (IsFollowedFile run) files → AllByRecursion (IsFollowing run) (followings_of placed files)
     are_following [] each = tt
-    are_following (file ∷ files) each = (is_following file each.0 placed, are_following files each.1)
+    are_following (file ∷ files) each = (is_following run file each.0 placed, are_following files each.1)
 
     are_rising : (least : ℕ) (files : List Filed) → AreInSlots least files → AreRising least (followings_of placed files)
     are_rising least [] slots = tt
@@ -98,9 +133,11 @@ module _ (run : Run) (scan : Scan) (by : IsByOneScan run scan) where
     are_in_turn [] apart = tt
     are_in_turn (file ∷ files) apart = (gone_before_all file files apart.0, are_in_turn files apart.1)
 
-    are_known_at_once : (all : List Following) (files : List Filed) → AllByRecursion (IsNewlyKnown run all) (followings_of placed files)
-    are_known_at_once all [] = tt
-    are_known_at_once all (file ∷ files) = (λ later. absurd (let some : 0 < 0 = later in omega (arith, some)), are_known_at_once all files)
+    are_newly_known : (all : List Following) (files : List Filed) → AllByRecursion (λ (file : Filed). IsNewlyKnown run [] (following_of file)) files →
+        AllByRecursion (IsNewlyKnown run all) (followings_of placed files)
+    are_newly_known all [] new = tt
+    are_newly_known all (file ∷ files) new =
+        (newly_among run [] all (following_of file) (λ other none. absurd (none_there other none)) new.0, are_newly_known all files new.1)
 
     later_are : (later : List Opening) → map (λ (tail : FollowedTail). tail.opening) (tails_of (map tail_by later)) ≡ map (λ (one : Opening). one.opened.opening) later
     later_are [] = refl
@@ -111,17 +148,17 @@ module _ (run : Run) (scan : Scan) (by : IsByOneScan run scan) where
     openings_are (file ∷ files) = λ k. (file.opened.opening ∷ later_are file.later k) ++ openings_are files k
 
   -- the files of a run are followed so
-  pub are_followed : (placed : Parcel → Option Place) (files : List Filed) → AreFollowedFiles run scan files → AreFollowed run (followings_of placed files)
-  are_followed placed files are =
+  pub are_followed : IsByScans run → (placed : Parcel → Option Place) (files : List Filed) → AreFollowedFiles run files → AreFollowed run (followings_of placed files)
+  are_followed by placed files are =
       let openings = openings_are placed files in
       record {
         scans = by.scans;
-        asked = subst (AllButTheLast (AreAsked run)) (sym by.only) tt;
-        asks_in_order = subst (AllByRecursion (AsksInOrder run)) (sym by.only) (by.asks_in_order, tt);
+        asked = by.asked;
+        asks_in_order = each_then (IsToldScan run) (AsksInOrder run) run.scans (λ scan told. told.asks_in_order) by.each;
         each = are_following placed files are.each;
         slots_rise = are_rising placed 0 files are.slots;
         in_turn = are_in_turn placed files are.keys_apart;
-        newly_known = are_known_at_once placed (followings_of placed files) files;
+        newly_known = are_newly_known placed (followings_of placed files) files are.newly_known;
         openings_apart = subst AreDistinct (sym (ap (λ (l : List ℕ). asked_openings run ++ l) openings)) are.openings_apart;
         openings_serve = λ opening path number begun since is.
             subst (λ (l : List ℕ). Contains l opening ⊎ OnlyReads run.trace opening) (sym openings) (are.openings_serve opening path number begun since is);

@@ -10,7 +10,7 @@ use Rattle.kept_rows.specs.Epochs.{AreEpochs, AreNumbered}
 use Rattle.kept_rows.specs.Going.{AccountGoesOn, EpochGoesOn, EpochsGoOn, PlaceGoesOn, ToldGoesOn}
 use Rattle.kept_rows.specs.Lost.{WasRemovedRightly}
 use Rattle.kept_rows.specs.Premises.{SlotPremises}
-use Rattle.kept_rows.specs.Run.{Run, Scan}
+use Rattle.kept_rows.specs.Run.{Run}
 use Rattle.kept_rows.specs.Scans.{AreDistinct}
 use Rattle.kept_rows.specs.Sent.{IsSentOnly, SendOnlyTold}
 use Rattle.kept_rows.specs.Telling.{AreSlotAccounts, IsSlotAccount}
@@ -19,7 +19,7 @@ use Rattle.wire_base.specs.declared.row.Row.{Row}
 use Rattle.wire_base.specs.declared.talk.Piece.{Piece}
 use Rattle.accounts.specs.Hidden.{Hidden, MayAllGo, MayGo, hidden_account, hidden_accounts, with_hidden}
 use Rattle.accounts.specs.Numbers.{AreAllCounted, AreNumbersOf, ArePlacedIn, IsPlacedAs, all_events, told_in_slot}
-use Rattle.accounts.proofs.HiddenFollowed.{each_may_go, first_scan}
+use Rattle.accounts.proofs.HiddenFollowed.{each_may_go}
 use Rattle.accounts.proofs.HiddenSlots.{found_with_hidden, has_with_hidden}
 use Rattle.accounts.proofs.Lists.{flat_map_both}
 use Rattle.accounts.proofs.Numbers.{counted_with, numbers_with}
@@ -83,13 +83,13 @@ pub in_rows_with_hidden : (account : List SlotAccount) (hiddens : List Hidden) �
 in_rows_with_hidden account hiddens are =
     has_with_hidden IsInOneRow account hiddens are (λ hidden there. record { numbered = hidden_is_numbered hidden; adjoin = (tt, tt) })
 
-module _ (run : Run) (scan : Scan) (hiddens : List Hidden) (may : MayAllGo run scan hiddens) where
-  abbrev pub removed_rightly : (wires : List WireTold) (hidden : Hidden) → (goes : MayGo run scan hidden) → WasRemovedRightly run wires goes.rule (hidden_account hidden)
+module _ (run : Run) (hiddens : List Hidden) (may : MayAllGo run hiddens) where
+  abbrev pub removed_rightly : (wires : List WireTold) (hidden : Hidden) → (goes : MayGo run hidden) → WasRemovedRightly run wires goes.rule (hidden_account hidden)
   removed_rightly wires hidden goes = record {
     cleans = goes.cleans;
-    number = 0;
-    scan = scan;
-    scan_is = first_scan run scan hiddens may;
+    number = hidden.hidden_by;
+    scan = goes.scan;
+    scan_is = goes.scan_is;
     since = omega arith;
     whole = goes.whole;
     hidden = goes.not_shown;
@@ -98,7 +98,7 @@ module _ (run : Run) (scan : Scan) (hiddens : List Hidden) (may : MayAllGo run s
 
   hidden_is_accounted : (hidden : Hidden) → Contains hiddens hidden → IsSlotAccount run (hidden_account hidden)
   hidden_is_accounted hidden there =
-      let goes = each_may_go run scan hiddens may hidden there in
+      let goes = each_may_go run hiddens may hidden there in
       record {
         rule = goes.rule;
         rule_is = goes.rule_is;

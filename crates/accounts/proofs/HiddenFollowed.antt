@@ -1,17 +1,22 @@
 -- The files of a run are followed so with the slots of hidden rows, where no slot of the account has the key of one of the rows.
-use Rattle.std.proofs.Common.{◌≡◌, ◌⊎◌, inr, ℕ, zero, suc, ◌+◌, ◌<◌, ◌≤◌, List, [], ◌∷◌, ◌++◌, map, Some, None, refl, sym, ap, subst, ◌∙◌, arith}
+use Rattle.std.proofs.Common.{◌≡◌, ◌⊎◌, inl, inr, ℕ, ◌+◌, ◌<◌, ◌≤◌, List, [], ◌∷◌, ◌++◌, map, Some, None, refl, sym, ap, subst, ◌∙◌, arith}
+use Rattle.std.proofs.lemmas.Bool.{cases_lt}
+use Rattle.std.proofs.lemmas.List.{map-append}
 use Rattle.std.specs.List.{AllByRecursion, Contains, slice_get}
-use Rattle.kept_rows.specs.Account.{FollowedTail, Following, SlotAccount, key_of, slot_of}
+use Rattle.kept_rows.specs.Account.{FollowedTail, Following, SlotAccount, slot_of}
 use Rattle.kept_rows.specs.Followed.{AreFollowed, AreInTurn, AreRising, IsFollowing, IsGoneBefore, IsNewlyKnown, OnlyReads, asked_openings, followed_openings}
 use Rattle.kept_rows.specs.Premises.{KeepsIdentity, Premises, SeesTruncationsOf}
 use Rattle.kept_rows.specs.Run.{Run, Scan}
-use Rattle.kept_rows.specs.Scans.{AreDistinct, ShowsFile, ShowsKey}
+use Rattle.kept_rows.specs.Scans.{AreDistinct, ShowsKey}
 use Rattle.ship_core.proofs.Members.{first_there, later_there}
 use Rattle.accounts.specs.AccountedFor.{followings_in}
 use Rattle.accounts.specs.Hidden.{AreHiddenFrom, Hidden, IsApartFrom, MayAllGo, MayGo, hidden_account, hidden_accounts, hidden_key, with_hidden}
 use Rattle.accounts.proofs.Backing.{mapped_there}
+use Rattle.accounts.proofs.Following.{newly_among}
 use Rattle.accounts.proofs.HiddenSlots.{has_with_hidden}
+use Rattle.accounts.proofs.Lists.{each_then, front_there}
 use Rattle.accounts.proofs.Orderly.{member_is}
+use Rattle.accounts.proofs.Places.{same_some}
 
 -- ---- followings, front and behind
 
@@ -80,55 +85,64 @@ same_openings : (account : List SlotAccount) (hiddens : List Hidden) → followe
 same_openings [] hiddens = hidden_opened_nothing hiddens
 same_openings (one ∷ account) hiddens = ap (λ (l : List ℕ). map (λ (tail : FollowedTail). tail.opening) one.following.tails ++ l) (same_openings account hiddens)
 
--- ---- the run's only scan
+-- ---- the scan by which each goes
 
-only_scan : (scan other : Scan) (number : ℕ) → slice_get (scan ∷ []) number ≡ Some other → (number ≡ 0) × (scan ≡ other)
-only_scan scan other zero is = let q : Some scan ≡ Some other = is in let same : scan ≡ other = cc in (refl, same)
-only_scan scan other (suc number) is = absurd (let q : None ≡ Some other = is in cc)
+-- a list that has a member has a first
+first_of : {A : Type 0} (xs : List A) (number : ℕ) (x : A) → slice_get xs number ≡ Some x → (first : A) × (slice_get xs 0 ≡ Some first)
+first_of [] number x is = absurd (let q : None ≡ Some x = is in cc)
+first_of (first ∷ xs) number x is = (first, refl)
 
-module _ (run : Run) (scan : Scan) (hiddens : List Hidden) (may : MayAllGo run scan hiddens) where
-  pub its_scan : (other : Scan) (number : ℕ) → slice_get run.scans number ≡ Some other → (number ≡ 0) × (scan ≡ other)
-  its_scan other number is = only_scan scan other number (ap (λ (l : List Scan). slice_get l number) (sym may.only) ∙ is)
+module _ (run : Run) (hiddens : List Hidden) (may : MayAllGo run hiddens) where
+  pub each_may_go : (hidden : Hidden) → Contains hiddens hidden → MayGo run hidden
+  each_may_go hidden there = member_is (MayGo run) hiddens hidden may.each there
 
-  pub first_scan : slice_get run.scans 0 ≡ Some scan
-  first_scan = ap (λ (l : List Scan). slice_get l 0) may.only
+  -- no scan up to that one showed its key
+  pub never_shown : (hidden : Hidden) → Contains hiddens hidden → (number : ℕ) (scan : Scan) → number ≤ hidden.hidden_by → slice_get run.scans number ≡ Some scan → ¬ (ShowsKey run scan (hidden_key hidden))
+  never_shown hidden there number scan until is = by_order (cases_lt number hidden.hidden_by)
+    where
+      goes : MayGo run hidden
+      goes = each_may_go hidden there
 
-  pub each_may_go : (hidden : Hidden) → Contains hiddens hidden → MayGo run scan hidden
-  each_may_go hidden there = member_is (MayGo run scan) hiddens hidden may.each there
-
-  -- no slot has the key of one of the rows, where the scan showed the keys of all slots
-  pub apart_from_hidden : (account : List SlotAccount) → AllByRecursion (λ one. ShowsKey run scan (key_of one)) account → AllByRecursion (IsApartFrom hiddens) account
-  apart_from_hidden [] shown = tt
-  apart_from_hidden (one ∷ account) shown = (
-    λ hidden there same. (each_may_go hidden there).not_shown (subst (ShowsKey run scan) same shown.0),
-    apart_from_hidden account shown.1,
-  )
+      by_order : (number < hidden.hidden_by) ⊎ (hidden.hidden_by ≤ number) → ¬ (ShowsKey run scan (hidden_key hidden))
+      by_order (inl before) = goes.not_before number scan (omega arith) before is
+      by_order (inr from) =
+          let same : number ≡ hidden.hidden_by = omega (arith, until, from) in
+          subst (λ (s : Scan). ¬ (ShowsKey run s (hidden_key hidden))) (same_some (slice_get run.scans number) goes.scan scan (ap (slice_get run.scans) same ∙ goes.scan_is) is) goes.not_shown
 
   -- ---- they are followed
 
   hidden_is_followed : (hidden : Hidden) → Contains hiddens hidden → IsFollowing run (hidden_account hidden).following
   hidden_is_followed hidden there =
       let its = each_may_go hidden there in
+      let first = first_of run.scans hidden.hidden_by its.scan its.scan_is in
       record {
         rule = its.rule;
         rule_is = its.rule_is;
         key_of_input = its.key_of_input;
         begun = record {
-          scan = scan;
-          scan_is = first_scan;
-          starts = inr (record { hidden = its.not_shown; row = hidden.row; found = its.found; starts = refl });
+          scan = first.0;
+          scan_is = first.1;
+          starts = inr (record { hidden = never_shown hidden there 0 first.0 (omega arith) first.1; row = hidden.row; found = its.found; starts = refl });
         };
         tails = tt;
         one_by_one = tt;
       }
 
-  -- no key was made known later
-  known_at_once : (all ones : List Following) → AllByRecursion (IsFollowing run) ones → AllByRecursion (IsNewlyKnown run all) ones
-  known_at_once all [] each = tt
-  known_at_once all (one ∷ ones) each = (
-    λ later. let first = (its_scan each.0.begun.scan one.known_from each.0.begun.scan_is).0 in absurd (omega (arith, later, first)),
-    known_at_once all ones each.1,
-  )
+  -- they were known from the first scan on
+  known_at_once : (all : List Following) (some : List Hidden) → AllByRecursion (IsNewlyKnown run all) (followings_in (hidden_accounts some))
+  known_at_once all [] = tt
+  known_at_once all (hidden ∷ some) = (λ later. absurd (let above : 0 < 0 = later in omega (arith, above)), known_at_once all some)
+
+  -- keys that became known later did so with these slots, too
+  newly_known_with : (account : List SlotAccount) → AllByRecursion (IsNewlyKnown run (followings_in account)) (followings_in account) →
+      AllByRecursion (IsNewlyKnown run (followings_in (with_hidden account hiddens))) (followings_in (with_hidden account hiddens))
+  newly_known_with account new =
+      let all = followings_in (with_hidden account hiddens) in
+      front_and_behind (IsNewlyKnown run all) account (hidden_accounts hiddens)
+      (each_then (IsNewlyKnown run (followings_in account)) (IsNewlyKnown run all) (followings_in account)
+      (λ one. newly_among run (followings_in account) all one (λ other there. subst (λ (l : List Following). Contains l other) (sym (map-append (λ (s : SlotAccount). s.following) account (hidden_accounts hiddens)))
+      (front_there (followings_in account) (followings_in (hidden_accounts hiddens)) other there))) new)
+      (known_at_once all hiddens)
 
   module _ (account : List SlotAccount) (least : ℕ) (below : AllByRecursion (λ (one : SlotAccount). slot_of one < least) account) (rise : AreHiddenFrom least hiddens) where
     pub followed_with_hidden : AllByRecursion (IsApartFrom hiddens) account → AreFollowed run (followings_in account) → AreFollowed run (followings_in (with_hidden account hiddens))
@@ -143,7 +157,7 @@ module _ (run : Run) (scan : Scan) (hiddens : List Hidden) (may : MayAllGo run s
           each = each;
           slots_rise = rising_behind 0 least account (hidden_accounts hiddens) (omega arith) followed.slots_rise below (hidden_rise least hiddens rise);
           in_turn = all_in_turn account hiddens followed.in_turn apart may.apart;
-          newly_known = known_at_once (followings_in (with_hidden account hiddens)) (followings_in (with_hidden account hiddens)) each;
+          newly_known = newly_known_with account followed.newly_known;
           openings_apart = subst (λ (l : List ℕ). AreDistinct (asked_openings run ++ l)) (sym openings) followed.openings_apart;
           openings_serve = λ opening path number begun since is.
               subst (λ (l : List ℕ). Contains l opening ⊎ OnlyReads run.trace opening) (sym openings) (followed.openings_serve opening path number begun since is);
@@ -154,9 +168,7 @@ module _ (run : Run) (scan : Scan) (hiddens : List Hidden) (may : MayAllGo run s
   hidden_keeps_identity : (hidden : Hidden) → Contains hiddens hidden → KeepsIdentity run (hidden_account hidden).following
   hidden_keeps_identity hidden there = record {
     number = 0;
-    listed = λ other place number path is known shows.
-        let same = its_scan other place is in
-        absurd ((each_may_go hidden there).not_shown (record { number = number; path = path; shows = subst (λ (s : Scan). ShowsFile run s (hidden_key hidden) number path) (sym same.1) shows }));
+    listed = λ other place number path is known shows. absurd (never_shown hidden there place other known.until is (record { number = number; path = path; shows = shows }));
     tails = λ rule is. tt;
   }
 

@@ -5,7 +5,7 @@ use Rattle.std.proofs.lemmas.List.Elements.{Contains-append_right}
 use Rattle.kept_rows.proofs.Showing.{both, each_on}
 use Rattle.kept_rows.specs.Account.{SlotAccount, key_of, slot_of}
 use Rattle.kept_rows.specs.Lost.{IsRightlyLost, IsRightlyLostInImage}
-use Rattle.kept_rows.specs.Run.{Run, Scan}
+use Rattle.kept_rows.specs.Run.{Run}
 use Rattle.kept_rows.specs.Trace.{WireTold}
 use Rattle.accounts.specs.Hidden.{Hidden, IsApartFrom, MayAllGo, hidden_account, hidden_accounts, hidden_key, hidden_slot, with_hidden}
 use Rattle.accounts.proofs.Backing.{mapped_there}
@@ -14,17 +14,17 @@ use Rattle.accounts.proofs.HiddenFollowed.{each_may_go}
 use Rattle.accounts.proofs.HiddenSlots.{each_hidden}
 use Rattle.accounts.proofs.Orderly.{same_item}
 
-module _ (run : Run) (scan : Scan) (hiddens : List Hidden) (may : MayAllGo run scan hiddens) (account : List SlotAccount) (wires : List WireTold) (hidden : Hidden) (there : Contains hiddens hidden) where
+module _ (run : Run) (hiddens : List Hidden) (may : MayAllGo run hiddens) (account : List SlotAccount) (wires : List WireTold) (hidden : Hidden) (there : Contains hiddens hidden) where
   pub lost_in_image : IsRightlyLostInImage run (with_hidden account hiddens) wires (hidden_key hidden)
   lost_in_image =
-      let goes = each_may_go run scan hiddens may hidden there in
+      let goes = each_may_go run hiddens may hidden there in
       record {
         one = hidden_account hidden;
         of_account = Contains-append_right account (hidden_accounts hiddens) (hidden_account hidden) (mapped_there hidden_account hiddens hidden there);
         key_is = refl;
         rule = goes.rule;
         rule_is = goes.rule_is;
-        why = inl (removed_rightly run scan hiddens may wires hidden goes);
+        why = inl (removed_rightly run hiddens may wires hidden goes);
       }
 
   abbrev IsNoNewer : SlotAccount → Type 0

@@ -130,6 +130,7 @@ backs_with_hidden account hiddens wires (Seen slot changed) backs =
 backs_with_hidden account hiddens wires (Forget slot epoch end) backs = record {
   one = backs.one;
   slot_is = found_with_hidden account hiddens slot.0 backs.one backs.slot_is;
+  gone = backs.gone;
   earlier = backs.earlier;
   last = backs.last;
   epochs_are = backs.epochs_are;

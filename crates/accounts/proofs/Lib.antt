@@ -70,4 +70,5 @@ pub mod WorkedOpenings
 pub mod WorkedRenamed
 pub mod WorkedReopened
 pub mod WorkedRun
+pub mod WorkedScans
 pub mod WorkedShrunk

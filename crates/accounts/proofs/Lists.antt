@@ -1,5 +1,6 @@
 -- Lists that go on.
-use Rattle.std.proofs.Common.{◌≡◌, ◌⊎◌, inl, inr, ℕ, List, [], ◌∷◌, ◌++◌, Contains, refl, sym, ap, subst, ◌∙◌, append_assoc, append-nil}
+use Rattle.std.proofs.Common.{◌≡◌, ◌⊎◌, inl, inr, ℕ, List, [], ◌∷◌, ◌++◌, Contains, length, Some, refl, sym, ap, subst, ◌∙◌, append_assoc, append-nil}
+use Rattle.std.specs.Prelude.{slice_get}
 use Rattle.std.specs.List.{AllByRecursion, flat_map}
 use Rattle.harvester.specs.Standing.{EndsAt}
 use Rattle.kept_rows.specs.Scans.{StandInOrder}
@@ -26,6 +27,10 @@ front_there {A} (first ∷ xs) ys x there = by_case (there_cases first x xs ther
 pub behind_there : {A : Type 0} (xs ys : List A) (y : A) → Contains ys y → Contains (xs ++ ys) y
 behind_there [] ys y there = there
 behind_there (first ∷ xs) ys y there = later_there first y (xs ++ ys) (behind_there xs ys y there)
+
+pub got_behind : {A : Type 0} (front : List A) (x : A) (behind : List A) → slice_get (front ++ x ∷ behind) (length front) ≡ Some x
+got_behind [] x behind = refl
+got_behind (first ∷ front) x behind = got_behind front x behind
 
 -- ---- what holds of each
 

@@ -1,20 +1,24 @@
 -- The account of a slot, over all openings of its file: where identities are kept and truncations are seen, it is one of the run.
-use Rattle.std.proofs.Common.{◌≡◌, ◌⊎◌, inl, inr, ℕ, ◌<◌, true, List, [], ◌∷◌, ◌++◌, Contains, length, map, Option, Some, refl, sym, ap, subst, ◌∙◌, arith}
+use Rattle.std.proofs.Common.{◌≡◌, ◌⊎◌, inl, inr, ℕ, zero, suc, ◌+◌, ◌-◌, ◌==◌, ◌<◌, ◌≤◌, List, [], ◌∷◌, ◌++◌, Contains, length, map, Option, None, Some, refl, sym, ap, subst, ◌∙◌, arith, if◌then◌else◌}
 use Rattle.std.specs.Prelude.{slice_get}
 use Rattle.std.specs.List.{AllByRecursion}
-use Rattle.std.proofs.lemmas.Bool.{cases_order}
+use Rattle.std.specs.Option.{option_map_or}
+use Rattle.std.proofs.lemmas.Bool.{cases_lt, cases_order, cond-false, ne_eqb}
 use Rattle.event_tree.specs.declared.input_rule.InputRule.{InputRule}
-use Rattle.harvester.specs.History.{IsTelling}
+use Rattle.harvester.specs.History.{History, IsTelling}
 use Rattle.kept_rows.specs.Account.{FollowedTail, Place, SlotAccount}
 use Rattle.kept_rows.specs.Epochs.{AreEpochs}
+use Rattle.kept_rows.specs.Followed.{BecomesKnown, HadNoRow, IsNewlyKnown}
 use Rattle.kept_rows.specs.Premises.{KeepsIdentity, SlotPremises, TailKeepsIdentity}
 use Rattle.kept_rows.specs.Run.{Run, Scan}
-use Rattle.kept_rows.specs.Scans.{IsBefore, IsBehind, IsFirstPath, ShowsFile, ShowsKey, moment_in}
-use Rattle.kept_rows.specs.Telling.{IsNotedMoment, IsSlotAccount, IsTailOf, MayEnd, opening_moment}
+use Rattle.kept_rows.specs.Scans.{IsBefore, IsBehind, IsFirstPath, ShowsFile, ShowsFileTo, ShowsKey, moment_in}
+use Rattle.kept_rows.specs.Telling.{IsNotedMoment, IsSlotAccount, IsTailOf, MayEnd, begun_moment, opening_moment}
 use Rattle.kept_rows.specs.Trace.{IsTail}
 use Rattle.multiline_core.specs.Rule.{timeout_of}
 use Rattle.outside.specs.Files.{File}
-use Rattle.ship_core.proofs.Members.{first_there}
+use Rattle.outside.specs.declared.history.Shown.{Shown}
+use Rattle.ship_core.proofs.Members.{first_there, none_there}
+use Rattle.ship_core.specs.Rows.{find}
 use Rattle.slot_parts.proofs.Made.{account_has_epochs, account_is_told}
 use Rattle.slot_parts.proofs.Shown.{parts_shown}
 use Rattle.slot_parts.specs.Account.{IsLookedTail, IsShownAs, IsShownBy, IsShownPart}
@@ -25,32 +29,86 @@ use Rattle.told_events.specs.Licence.{LieApart}
 use Rattle.told_events.specs.Rules.{Rules, rules_of}
 use Rattle.told_events.specs.Told.{ToldEvent}
 use Rattle.wire_base.specs.declared.parcel.Parcel.{Parcel}
+use Rattle.wire_base.specs.declared.row.Row.{Row}
 use Rattle.accounts.specs.Accounted.{place_in}
-use Rattle.accounts.specs.Filed.{Filed, Opening, account_of, first_opening, following_of, tail_by, tails_in}
-use Rattle.accounts.specs.FollowedFile.{IsFollowedFile, IsMomentOf, IsOpeningOf, WasShownLast}
-use Rattle.accounts.specs.OneScan.{IsByOneScan}
+use Rattle.accounts.specs.Filed.{Filed, Opening, account_of, first_opening, following_of, tail_by, tails_in, told_both}
+use Rattle.accounts.specs.FollowedFile.{AreReopened, BeganEarlier, BeginsThere, IsFollowedFile, IsMomentOf, IsOpeningOf, WasShownLast, moment_by}
 use Rattle.accounts.specs.Opened.{Opened}
 use Rattle.accounts.specs.ToldFile.{IsToldBy, events_in}
 use Rattle.accounts.specs.Watch.{MayFindEnd, Name}
 use Rattle.accounts.specs.Watched.{WasRenamedSince, watch_in}
-use Rattle.accounts.proofs.Lists.{each_then}
+use Rattle.accounts.proofs.Following.{got_each, got_there}
+use Rattle.accounts.proofs.Lists.{behind_there, each_then, got_behind}
 use Rattle.accounts.proofs.MomentsApart.{lie_apart_among}
 use Rattle.accounts.proofs.Names.{each_telling, in_turn_each}
-use Rattle.accounts.proofs.Openings.{each_reopened, file_goes_on, first_is_opening, first_shown, looks_at_file, opens_with_key, reads_so}
+use Rattle.accounts.proofs.Openings.{file_goes_on, first_is_opening, looks_at_file, opens_with_key, reads_so}
 use Rattle.accounts.proofs.Orderly.{member_is}
 use Rattle.accounts.proofs.Slots.{tells_both}
-
-got_behind : {A : Type 0} (front : List A) (x : A) (behind : List A) → slice_get (front ++ x ∷ behind) (length front) ≡ Some x
-got_behind [] x behind = refl
-got_behind (first ∷ front) x behind = got_behind front x behind
 
 same_of : {A : Type 0} (x y : A) → Some x ≡ Some y → x ≡ y
 same_of x y same = cc
 
--- an opening, and how the last scan before it showed the file
-pub record IsShownOpening (run : Run) (first : Opened) (one : Opening) : Type 0 where
-  pub is : IsOpeningOf run first one
+-- what is behind the place of one of a list
+got_far : {A : Type 0} (front : List A) (x : A) (behind : List A) (k n : ℕ) → n ≡ length front + suc k → slice_get (front ++ x ∷ behind) n ≡ slice_get behind k
+got_far [] x behind k n is = let at : n ≡ suc k = omega (arith, is) in ap (slice_get (x ∷ behind)) at
+got_far (first ∷ front) x behind k n is =
+    let at : n ≡ suc (length front + suc k) = omega (arith, is) in
+    ap (slice_get (first ∷ (front ++ x ∷ behind))) at ∙ got_far front x behind k (length front + suc k) refl
+
+-- the last scan that showed a file before a later opening is not before the last one before an earlier opening
+not_before : (run : Run) (one next : Opened) (shown : WasShownLast run one) (again : WasShownLast run next) → next.begin.key ≡ one.begin.key → one.opening < next.opening →
+    length shown.front ≤ length again.front
+not_before run one next shown again same_key later = by_order (cases_lt (length again.front) (length shown.front))
+  where
+    before_next : (listings : List ℕ) → AllByRecursion (λ listing. listing < one.opening) listings → AllByRecursion (λ listing. listing < next.opening) listings
+    before_next [] before = tt
+    before_next (listing ∷ listings) before = (let here = before.0 in omega (arith, here, later), before_next listings before.1)
+
+    by_order : (length again.front < length shown.front) ⊎ (length shown.front ≤ length again.front) → length shown.front ≤ length again.front
+    by_order (inr is) = is
+    by_order (inl nearer) =
+        let k = length shown.front - suc (length again.front) in
+        let place : length shown.front ≡ length again.front + suc k = omega (arith, nearer) in
+        let behind : slice_get again.behind k ≡ Some shown.scan =
+        sym (got_far again.front again.scan again.behind k (length shown.front) place)
+        ∙ ap (λ (l : List Scan). slice_get l (length shown.front)) (sym again.scans_are ∙ shown.scans_are) ∙ got_behind shown.front shown.scan shown.behind in
+        absurd (got_each (λ (other : Scan). ShowsKey run other next.begin.key → IsBefore next.opening other → ⊥) again.behind k shown.scan again.none_nearer behind
+        (subst (ShowsKey run shown.scan) (sym same_key) (record {
+          number = shown.number;
+          path = shown.shown.entry.path;
+          shows = record { shown = shown.shown; path_is = refl; shows = (one.begin.input, shown.shows) };
+        }))
+        (before_next shown.scan.listings shown.made_before))
+
+-- what is behind so many of a list
+got_from : {A : Type 0} (front xs : List A) (k n : ℕ) → n ≡ length front + k → slice_get (front ++ xs) n ≡ slice_get xs k
+got_from [] xs k n is = ap (slice_get xs) (let at : n ≡ k = omega (arith, is) in at)
+got_from (first ∷ front) xs k n is =
+    let at : n ≡ suc (length front + k) = omega (arith, is) in
+    ap (slice_get (first ∷ (front ++ xs))) at ∙ got_from front xs k (length front + k) refl
+
+-- the scan by which a file was opened is before those that were made behind the opening
+since_opened : (run : Run) (one : Opened) (shown : WasShownLast run one) (name : Name) (was : WasRenamedSince run one name) → length shown.front < length was.front
+since_opened run one shown name was = by_order (cases_lt (length shown.front) (length was.front))
+  where
+    by_order : (length shown.front < length was.front) ⊎ (length was.front ≤ length shown.front) → length shown.front < length was.front
+    by_order (inl is) = is
+    by_order (inr behind) =
+        let k = length shown.front - length was.front in
+        let there : slice_get (was.scan ∷ was.behind) k ≡ Some shown.scan =
+        sym (got_from was.front (was.scan ∷ was.behind) k (length shown.front) (omega (arith, behind)))
+        ∙ ap (λ (l : List Scan). slice_get l (length shown.front)) (sym was.scans_are ∙ shown.scans_are) ∙ got_behind shown.front shown.scan shown.behind in
+        let later = got_each (IsBehind one.opening) (was.scan ∷ was.behind) k shown.scan was.later there in
+        let entry = shown.shows.asks.entry in
+        let after = member_is (λ (listing : ℕ). one.opening < listing) shown.scan.listings entry.listing later entry.of_scan in
+        let before = member_is (λ (listing : ℕ). listing < one.opening) shown.scan.listings entry.listing shown.made_before entry.of_scan in
+        absurd (omega (arith, after, before))
+
+-- an opening, and how the last scan before it showed the file, which is one since its key is known
+pub record IsShownOpening (run : Run) (file : Filed) (one : Opening) : Type 0 where
+  pub is : IsOpeningOf run file.opened one
   pub shown : WasShownLast run one.opened
+  pub known : file.known_from ≤ length shown.front
 
 module _ (run : Run) (placed : Parcel → Option Place) (file : Filed) (keeps : KeepsIdentity run (following_of file)) (same_first : file.opened.number ≡ keeps.number)
     (file_is : slice_get run.trace.files file.opened.number ≡ Some file.opened.file) where
@@ -65,7 +123,7 @@ module _ (run : Run) (placed : Parcel → Option Place) (file : Filed) (keeps : 
 
   -- ---- an opening
 
-  module _ (one : Opening) (of : IsShownOpening run file.opened one) (own : TailKeepsIdentity run file.opened.rule file.opened.begin.key keeps.number (tail_by one).tail) where
+  module _ (one : Opening) (of : IsShownOpening run file one) (own : TailKeepsIdentity run file.opened.rule file.opened.begin.key keeps.number (tail_by one).tail) where
     same_number : one.opened.number ≡ file.opened.number
     same_number =
         own.one_file one.opened.begin.path one.opened.number one.opened.file (tells_both run one.opened one.history one.looks of.is.tail) of.is.file_is
@@ -119,7 +177,7 @@ module _ (run : Run) (placed : Parcel → Option Place) (file : Filed) (keeps : 
     shown_number =
         keeps.listed of.shown.scan (length of.shown.front) of.shown.number one.opened.begin.path
         (ap (λ (l : List Scan). slice_get l (length of.shown.front)) of.shown.scans_are ∙ got_behind of.shown.front of.shown.scan of.shown.behind)
-        (record { since = omega arith; until = tt }) first_path.shows
+        (record { since = of.known; until = tt }) first_path.shows
         ∙ sym same_first
 
     is_shown_as : IsShownAs run account one.opened.opening one.opened.begin.path
@@ -159,7 +217,7 @@ module _ (run : Run) (placed : Parcel → Option Place) (file : Filed) (keeps : 
         number_is : was.number ≡ file.opened.number
         number_is = keeps.listed was.scan (length was.front) was.number name.path
             (ap (λ (l : List Scan). slice_get l (length was.front)) was.scans_are ∙ got_behind was.front was.scan was.behind)
-            (record { since = omega arith; until = tt }) first.shows
+            (record { since = let nearer = since_opened run one.opened of.shown name was in let known = of.known in omega (arith, nearer, known); until = tt }) first.shows
             ∙ sym same_first
 
     -- each event was told by the path of the opening, or by one of these
@@ -185,78 +243,125 @@ module _ (run : Run) (placed : Parcel → Option Place) (file : Filed) (keeps : 
   abbrev Own : FollowedTail → Type 0
   Own tail = TailKeepsIdentity run file.opened.rule file.opened.begin.key keeps.number tail
 
-  of_one_file : (openings : List Opening) → AllByRecursion (IsShownOpening run file.opened) openings → AllByRecursion Own (tails_of (map tail_by openings)) →
+  of_one_file : (openings : List Opening) → AllByRecursion (IsShownOpening run file) openings → AllByRecursion Own (tails_of (map tail_by openings)) →
       AllByRecursion (IsTailOf run file.opened.number) (tails_of (map tail_by openings))
   of_one_file [] of own = tt
   of_one_file (one ∷ openings) of own = (is_tail_of one of.0 own.0, of_one_file openings of.1 own.1)
 
-  are_told : (openings : List Opening) → AllByRecursion (IsShownOpening run file.opened) openings → AllByRecursion Own (tails_of (map tail_by openings)) →
+  are_told : (openings : List Opening) → AllByRecursion (IsShownOpening run file) openings → AllByRecursion Own (tails_of (map tail_by openings)) →
       AllByRecursion (IsToldTail rules file.opened.file (MayEnd run account) Waited) (map tail_by openings)
   are_told [] of own = tt
   are_told (one ∷ openings) of own = (is_told_tail one of.0 own.0, are_told openings of.1 own.1)
 
-  are_looked : (openings : List Opening) → AllByRecursion (IsShownOpening run file.opened) openings → AllByRecursion Own (tails_of (map tail_by openings)) →
+  are_looked : (openings : List Opening) → AllByRecursion (IsShownOpening run file) openings → AllByRecursion Own (tails_of (map tail_by openings)) →
       AllByRecursion (IsLookedTail file.opened.file) (tails_of (map tail_by openings))
   are_looked [] of own = tt
   are_looked (one ∷ openings) of own = (is_looked_tail one of.0 own.0, are_looked openings of.1 own.1)
 
-  are_shown : (openings : List Opening) → AllByRecursion (IsShownOpening run file.opened) openings → AllByRecursion Own (tails_of (map tail_by openings)) →
+  are_shown : (openings : List Opening) → AllByRecursion (IsShownOpening run file) openings → AllByRecursion Own (tails_of (map tail_by openings)) →
       AllByRecursion (IsShownPart run account) (parts_in rules.events (map tail_by openings))
   are_shown [] of own = tt
   are_shown (one ∷ openings) of own =
       all_behind (IsShownPart run account) (parts_by rules.events (tail_by one)) (parts_in rules.events (map tail_by openings)) (parts_are_shown one of.0 own.0)
       (are_shown openings of.1 own.1)
 
--- ---- a file that the one scan listed
+-- ---- a file that scans listed
 
-module _ (run : Run) (scan : Scan) (by : IsByOneScan run scan) (placed : Parcel → Option Place) (file : Filed) (is : IsFollowedFile run scan file) where
-  is_noted_moment : IsNotedMoment run (following_of file) file.changed
-  is_noted_moment = by_case is.moment
+module _ (run : Run) (placed : Parcel → Option Place) (file : Filed) (is : IsFollowedFile run file) where
+  -- a key that became known later had no row, so it has no moment from before
+  begun_with : IsNewlyKnown run [] (following_of file) → begun_moment run (following_of file) ≡ opening_moment run.opening file.opened.begin.key
+  begun_with new = by_scan file.known_from refl
     where
-      by_case : IsMomentOf run file is.shown → IsNotedMoment run (following_of file) file.changed
-      by_case (inl opening) = inl opening
-      by_case (inr greater) = by_order (cases_order (moment_in is.shown) (opening_moment run.opening file.opened.begin.key))
+      none : BecomesKnown run [] (following_of file) → find file.opened.begin.key run.opening ≡ None
+      none known = by_row known.no_row
         where
-          by_order : (moment_in is.shown ≡ opening_moment run.opening file.opened.begin.key) ⊎
-              ((moment_in is.shown < opening_moment run.opening file.opened.begin.key) ⊎ (opening_moment run.opening file.opened.begin.key < moment_in is.shown)) →
-              IsNotedMoment run (following_of file) file.changed
-          by_order (inl same) = inl (omega (arith, greater, same))
-          by_order (inr (inl less)) = inl (omega (arith, greater, less))
-          by_order (inr (inr more)) = inr (
-            omega (arith, greater, more),
-            record {
-              scan = scan;
-              of_run = subst (λ (l : List Scan). Contains l scan) (sym by.only) (first_there scan []);
-              number = is.listed.number;
-              shown = is.shown;
-              shows = (file.opened.begin.input, is.listed.shows);
-              moment_is = omega (arith, greater, more);
-            },
-          )
+          by_row : HadNoRow run [] (following_of file) → find file.opened.begin.key run.opening ≡ None
+          by_row (inl has_none) = has_none
+          by_row (inr went) = absurd (none_there went.1.earlier went.1.among)
+
+      by_scan : (number : ℕ) → file.known_from ≡ number → (if number == 0 then opening_moment run.opening file.opened.begin.key else 0) ≡ opening_moment run.opening file.opened.begin.key
+      by_scan zero first = refl
+      by_scan (suc earlier) later =
+          let known = none (new (omega (arith, later))) in
+          cond-false (suc earlier == 0) (opening_moment run.opening file.opened.begin.key) 0 (ne_eqb (suc earlier) 0 (λ same. omega (arith, same)))
+          ∙ sym (ap (λ (o : Option Row). option_map_or (λ (row : Row). row.changed.0) o 0) known)
+
+  -- the moment is of an entry by which a scan showed it
+  noted_by : IsNewlyKnown run [] (following_of file) → (scan : Scan) → Contains run.scans scan → (number : ℕ) (shown : Shown) →
+      ShowsFileTo run scan file.opened.begin.input file.opened.begin.key number shown → file.changed ≡ moment_by run file shown → IsNotedMoment run (following_of file) file.changed
+  noted_by new scan there number shown shows greater = by_order (cases_order (moment_in shown) (opening_moment run.opening file.opened.begin.key))
+    where
+      by_order : (moment_in shown ≡ opening_moment run.opening file.opened.begin.key) ⊎
+          ((moment_in shown < opening_moment run.opening file.opened.begin.key) ⊎ (opening_moment run.opening file.opened.begin.key < moment_in shown)) →
+          IsNotedMoment run (following_of file) file.changed
+      by_order (inl same) = inl (let is : file.changed ≡ opening_moment run.opening file.opened.begin.key = omega (arith, greater, same) in is ∙ sym (begun_with new))
+      by_order (inr (inl less)) = inl (let is : file.changed ≡ opening_moment run.opening file.opened.begin.key = omega (arith, greater, less) in is ∙ sym (begun_with new))
+      by_order (inr (inr more)) = inr (
+        subst (λ (n : ℕ). n ≤ file.changed) (sym (begun_with new)) (omega (arith, greater, more)),
+        record {
+          scan = scan;
+          of_run = there;
+          number = number;
+          shown = shown;
+          shows = (file.opened.begin.input, shows);
+          moment_is = omega (arith, greater, more);
+        },
+      )
+
+  is_noted_moment : IsNewlyKnown run [] (following_of file) → IsNotedMoment run (following_of file) file.changed
+  is_noted_moment new = by_case is.moment
+    where
+      by_case : IsMomentOf run file is.listed → IsNotedMoment run (following_of file) file.changed
+      by_case (inl opening) = inl (opening ∙ sym (begun_with new))
+      by_case (inr (inl greater)) =
+          let last = is.listed.last in
+          noted_by new last.scan
+          (subst (λ (l : List Scan). Contains l last.scan) (sym last.scans_are) (behind_there last.front (last.scan ∷ last.behind) last.scan (first_there last.scan last.behind)))
+          last.number last.shown last.shows greater
+      by_case (inr (inr also)) = noted_by new also.1.scan (got_there run.scans also.1.place also.1.scan also.1.scan_is) also.1.number also.0 also.1.shows also.2
+
+  -- the scans that listed it as it was opened are since its key is known
+  known_first : file.known_from ≤ length is.listed.last.front
+  known_first = by_case is.listed.begins
+    where
+      by_case : BeginsThere run file is.listed.last ⊎ BeganEarlier run file is.listed.last → file.known_from ≤ length is.listed.last.front
+      by_case (inl there) = let number = there.number_is in omega (arith, number)
+      by_case (inr before) = let less = before.earlier in omega (arith, less)
+
+  shown_later : (last : Opening) (shown : WasShownLast run last.opened) → last.opened.begin.key ≡ file.opened.begin.key → file.known_from ≤ length shown.front → (so_far : History) (later : List Opening) →
+      AreReopened run file.opened last so_far later → AllByRecursion (IsShownOpening run file) later
+  shown_later last shown same_key known so_far [] are = tt
+  shown_later last shown same_key known so_far (next ∷ later) are =
+      let since = are.0.closed.since in
+      let before = are.0.closed.before in
+      let nearer = not_before run last.opened next.opened shown are.0.shown (are.0.is.same_key ∙ sym same_key) (omega (arith, since, before)) in
+      let still : file.known_from ≤ length are.0.shown.front = omega (arith, known, nearer) in (
+        record { is = are.0.is; shown = are.0.shown; known = still },
+        shown_later next are.0.shown are.0.is.same_key still (told_both so_far next.history) later are.1,
+      )
 
   pub slot_has_epochs : AreEpochs run (account_of placed file)
   slot_has_epochs =
       account_has_epochs run file.opened.rule.multiline (place_in placed file.opened.begin.slot) (following_of file) file.opened.number file.changed (tails_in file) refl
-      (file_goes_on run scan file is by)
+      (file_goes_on run file is)
 
-  pub slot_is_account : SlotPremises run (following_of file) → IsSlotAccount run (account_of placed file)
-  slot_is_account premises =
+  pub slot_is_account : IsNewlyKnown run [] (following_of file) → SlotPremises run (following_of file) → IsSlotAccount run (account_of placed file)
+  slot_is_account new premises =
       let keeps = premises.identity in
       let openings = first_opening file ∷ file.later in
-      let of : AllByRecursion (IsShownOpening run file.opened) openings = (
-        record { is = first_is_opening run scan file is; shown = first_shown run scan file is by },
-        each_reopened run file.opened is.in_range (IsShownOpening run file.opened) (λ last so_far next again. record { is = again.is; shown = again.shown })
-            (first_opening file) file.turned.history file.later is.reopened,
+      let of : AllByRecursion (IsShownOpening run file) openings = (
+        record { is = first_is_opening run file is; shown = is.listed.last; known = known_first },
+        shown_later (first_opening file) is.listed.last refl known_first file.turned.history file.later is.reopened,
       ) in
       let own = keeps.tails file.opened.rule is.rule_is in
       let same_first : file.opened.number ≡ keeps.number =
       own.0.one_file file.opened.begin.path file.opened.number file.opened.file (tells_both run file.opened file.turned.history file.looks is.tail) is.file_is
-      (opens_with_key run file.opened (first_opening file) (first_is_opening run scan file is)) in
-      let on = file_goes_on run scan file is by in
+      (opens_with_key run file.opened (first_opening file) (first_is_opening run file is)) in
+      let on = file_goes_on run file is in
       record {
         rule = file.opened.rule;
         rule_is = is.rule_is;
-        moment = is_noted_moment;
+        moment = is_noted_moment new;
         of_one_file = of_one_file run placed file keeps same_first is.file_is openings of own;
         epochs = slot_has_epochs;
         told = account_is_told run (rules_of file.opened.rule run.settings.processors) (place_in placed file.opened.begin.slot) (following_of file) file.opened.number file.changed (tails_in file)

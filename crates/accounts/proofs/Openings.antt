@@ -1,6 +1,6 @@
 -- The openings of a slot's file, one by one: each tail follows the file, goes on behind those before it, and tells a part of the slot's
 -- epochs.
-use Rattle.std.proofs.Common.{◌≡◌, ◌⊎◌, inl, inr, ℕ, ◌+◌, ◌≤◌, nat_le, Bool, true, false, List, [], ◌∷◌, ◌++◌, length, map, Option, None, Some, refl, sym, ap, subst, ◌∙◌, arith, if◌then◌else◌}
+use Rattle.std.proofs.Common.{◌≡◌, ◌⊎◌, inl, inr, ℕ, zero, suc, ◌+◌, ◌≤◌, nat_le, Bool, true, false, List, [], ◌∷◌, ◌++◌, length, map, Option, None, Some, refl, sym, ap, subst, ◌∙◌, arith, if◌then◌else◌}
 use Rattle.std.specs.List.{AllByRecursion}
 use Rattle.std.proofs.lemmas.Bool.{cond-true, le-leb, leb-true}
 use Rattle.std.proofs.lemmas.List.{length_push}
@@ -12,7 +12,7 @@ use Rattle.file_looks.specs.Segment.{Segment}
 use Rattle.harvester.specs.History.{History, IsTelling, Telling, rules_in, told_to}
 use Rattle.kept_rows.specs.Epochs.{WasListedWith}
 use Rattle.kept_rows.specs.Followed.{AreOneByOne, IsFollowedTail, Start, start_by}
-use Rattle.kept_rows.specs.Run.{Run, Scan}
+use Rattle.kept_rows.specs.Run.{Run}
 use Rattle.kept_rows.specs.Scans.{IsFirstPath}
 use Rattle.multiline_core.specs.Rule.{IsGroupRule}
 use Rattle.outside.specs.Tails.{TailHistory}
@@ -25,8 +25,7 @@ use Rattle.slot_parts.specs.Tails.{GoOnBehind, GoesOnBehind, parts_by, parts_in,
 use Rattle.slot_parts.specs.Tellings.{AreNumberedFrom, parts_of, tellings_in}
 use Rattle.wire_base.specs.declared.row.Row.{Row}
 use Rattle.accounts.specs.Filed.{Filed, IsFiled, Opening, TellEpochs, first_opening, parts_told, tail_by, tails_in, told_both, told_over, turned_in}
-use Rattle.accounts.specs.FollowedFile.{AreReopened, IsFollowedFile, IsOpeningOf, IsReopened, MayReopenAt, WasShownLast, start_in, tail_with}
-use Rattle.accounts.specs.OneScan.{IsByOneScan}
+use Rattle.accounts.specs.FollowedFile.{AreReopened, BeganEarlier, BeginsThere, IsFollowedFile, IsOpeningOf, IsReopened, MayReopenAt, WasShownLast, begins_by, start_in, tail_with}
 use Rattle.accounts.specs.Opened.{Opened}
 use Rattle.accounts.specs.Parted.{kept_looks}
 use Rattle.accounts.specs.ToldFile.{AreEpochsFrom}
@@ -248,7 +247,12 @@ within_size (Some row) size = by_case (nat_le row.offset size) refl
     by_case true e = leb-true row.offset size e
     by_case false e = omega arith
 
-module _ (run : Run) (scan : Scan) (file : Filed) (is : IsFollowedFile run scan file) where
+-- so is what a scan begins
+within_listed : (number : ℕ) (row : Option Row) (size : ℕ) → (begins_by number row size).base ≤ size
+within_listed zero row size = within_size row size
+within_listed (suc earlier) row size = omega arith
+
+module _ (run : Run) (file : Filed) (is : IsFollowedFile run file) where
   pub first_is_opening : IsOpeningOf run file.opened (first_opening file)
   first_is_opening = record {
     same_slot = refl;
@@ -311,39 +315,30 @@ module _ (run : Run) (scan : Scan) (file : Filed) (is : IsFollowedFile run scan 
   pub is_filed : IsFiled file
   is_filed = record { slot = is.told.slot; epochs = file_epochs; tell = tell_epochs }
 
-  -- ---- as it was shown
+  -- ---- as it was listed
 
-  module _ (by : IsByOneScan run scan) where
-    abbrev pub first_shown : WasShownLast run file.opened
-    first_shown = record {
-      front = [];
-      scan = scan;
-      behind = [];
-      scans_are = by.only;
-      made_before = is.listed.before;
-      none_nearer = tt;
-      number = is.listed.number;
-      shown = is.shown;
-      shows = is.listed.shows;
-      path_is = is.listed.path_is;
-      first = is.listed.first;
-    }
+  abbrev shown : WasShownLast run file.opened
+  shown = is.listed.last
 
-    begins_within : base ≤ is.shown.entry.size
-    begins_within =
-        let starts : base ≡ start_base (start_by (find file.opened.begin.key run.opening) is.shown.entry.size) = ap start_base is.listed.starts in
-        let within = within_size (find file.opened.begin.key run.opening) is.shown.entry.size in
-        omega (arith, starts, within)
+  begins_within : base ≤ shown.shown.entry.size
+  begins_within = by_case is.listed.begins
+    where
+      by_case : BeginsThere run file shown ⊎ BeganEarlier run file shown → base ≤ shown.shown.entry.size
+      by_case (inl there) =
+          let starts : base ≡ start_base (begins_by file.known_from (find file.opened.begin.key run.opening) shown.shown.entry.size) = ap start_base there.starts in
+          let within = within_listed file.known_from (find file.opened.begin.key run.opening) shown.shown.entry.size in
+          omega (arith, starts, within)
+      by_case (inr earlier) = earlier.within
 
-    first_starts : start_in file.opened ≡ goes_on epoch base is.shown.entry.size
-    first_starts = sym (cond-true _ (record { epoch = epoch; base = base }) (record { epoch = epoch + 1; base = 0 }) (le-leb base is.shown.entry.size begins_within))
+  first_starts : start_in file.opened ≡ goes_on epoch base shown.shown.entry.size
+  first_starts = sym (cond-true _ (record { epoch = epoch; base = base }) (record { epoch = epoch + 1; base = 0 }) (le-leb base shown.shown.entry.size begins_within))
 
-    pub file_goes_on : GoOnBehind run file.opened.begin.key file.opened.rule.multiline epoch base (tails_in file)
-    file_goes_on = (
-      one_goes_on run file.opened (first_opening file) first_is_opening first_shown epoch base first_starts,
-      go_on_behind run file.opened is.in_range epoch base (first_opening file) file.turned.history file.later
-          (epoch_after epoch (parts_by file.opened.rule.multiline (tail_by (first_opening file))))
-          (place_after base (parts_by file.opened.rule.multiline (tail_by (first_opening file)))) first_is_so_far
-          (λ may. let at = ends_exactly run file.opened (first_opening file) first_is_opening file.opened.rule.multiline may epoch base in (at.epoch_is, at.place_is))
-          is.reopened,
-    )
+  pub file_goes_on : GoOnBehind run file.opened.begin.key file.opened.rule.multiline epoch base (tails_in file)
+  file_goes_on = (
+    one_goes_on run file.opened (first_opening file) first_is_opening shown epoch base first_starts,
+    go_on_behind run file.opened is.in_range epoch base (first_opening file) file.turned.history file.later
+        (epoch_after epoch (parts_by file.opened.rule.multiline (tail_by (first_opening file))))
+        (place_after base (parts_by file.opened.rule.multiline (tail_by (first_opening file)))) first_is_so_far
+        (λ may. let at = ends_exactly run file.opened (first_opening file) first_is_opening file.opened.rule.multiline may epoch base in (at.epoch_is, at.place_is))
+        is.reopened,
+  )

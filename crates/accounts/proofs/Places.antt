@@ -25,7 +25,7 @@ use Rattle.accounts.proofs.Often.{once_apart, once_others}
 use Rattle.accounts.proofs.Orderly.{member_is}
 use Rattle.accounts.proofs.Same.{tells_parcels}
 
-same_some : {A : Type 0} (o : Option A) (x y : A) → o ≡ Some x → o ≡ Some y → x ≡ y
+pub same_some : {A : Type 0} (o : Option A) (x y : A) → o ≡ Some x → o ≡ Some y → x ≡ y
 same_some o x y is and = let q : Some x ≡ Some y = sym is ∙ and in cc
 
 -- one place has one parcel

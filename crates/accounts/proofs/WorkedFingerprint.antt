@@ -1,7 +1,7 @@
 -- A file that is known by its first two bytes: the scan opened it to ask for its key, it was opened once more and asked again before it was
 -- followed, and it was read to its end. All that is asked of a run that is done holds of it at once. Where a fingerprint is asked of no
 -- open file nothing is followed; and the looks of a tail part where the key was lost.
-use Rattle.std.proofs.Common.{◌≡◌, ◌⊎◌, inl, inr, ℕ, zero, suc, true, List, [], ◌∷◌, ◌++◌, Contains, Option, Some, None, refl, sym, ap, subst, ◌∙◌, arith, lit≤, codes}
+use Rattle.std.proofs.Common.{◌≡◌, ◌⊎◌, inl, inr, ℕ, zero, suc, ◌<◌, true, List, [], ◌∷◌, ◌++◌, Contains, Option, Some, None, refl, sym, ap, subst, ◌∙◌, arith, lit≤, codes}
 use Rattle.std.specs.Option.{unwrap_or}
 use Rattle.std.specs.Prelude.{slice_get}
 use Rattle.event_tree.specs.declared.input_rule.IdentityRule.TheVariants.{Fingerprint, Path}
@@ -24,9 +24,9 @@ use Rattle.ship_core.proofs.Members.{none_there, there_cases}
 use Rattle.told_events.proofs.Worked.{a_log}
 use Rattle.wire_base.specs.KeyOrder.{compare}
 use Rattle.wire_base.specs.declared.note.Note.TheVariants.{Begin}
+use Rattle.accounts.specs.ByScans.{IsToldScan}
 use Rattle.accounts.specs.Filed.{Filed}
 use Rattle.accounts.specs.FollowedFile.{EachOpeningIsOne, IsFollowedFile}
-use Rattle.accounts.specs.OneScan.{IsByOneScan}
 use Rattle.accounts.specs.Parted.{kept_looks, lost_looks}
 use Rattle.accounts.specs.RunDone.{IsAmongFiles, RunDone}
 use Rattle.accounts.specs.RunTold.{RunTold}
@@ -140,31 +140,27 @@ asked_well = record {
   well = ((λ named. named), inl (record { number = 0; looks = asked; tail = asked_tail; asking = is_asking; closed = refl }));
 }
 
-by_one_scan : IsByOneScan run scan
-by_one_scan = record {
-  once = refl;
-  only = refl;
-  scans = record { together = refl; by_globs = ((inl (worked.shown ∷ [], refl), tt), tt); full = tt; moments = ([], [], refl, tt) };
-  asked_well = (asked_well, tt);
+is_told : IsToldScan run scan
+is_told = record {
+  asked_so = (inl asked_well, tt);
   asks_in_order = record {
     each = (record { shown = worked.shown; entry = entry; path_is = refl; rule = input; rule_is = refl; covered = worked.is_covered; opening = λ named. named }, tt);
     in_order = (tt, tt);
     made = (3, (refl, inl (record { number = 0; begun = worked.sight; opened = refl; looks = asked; faults = 0; closed = refl }, refl)), tt);
   };
-  own_ids = record { no_colon = ((λ e. cc, tt), tt); ids_apart = (none_there worked.input.id, tt) };
 }
 
--- a scan that opened nothing for a fingerprint is none of such a run
-pub unopened_is_refused : IsByOneScan run (record scan { askings = record asking { opening = None } ∷ [] }) → ⊥
-unopened_is_refused by =
-    let asked = by.asked_well.0 in
+-- a scan that opened nothing for a fingerprint is not told so
+pub unopened_is_refused : IsToldScan run (record scan { askings = record asking { opening = None } ∷ [] }) → ⊥
+unopened_is_refused told =
+    let asked = told.asks_in_order.each.0 in
     let q : Some input ≡ Some asked.rule = asked.rule_is in
     let same : input ≡ asked.rule = cc in
-    subst (λ (r : InputRule). IsNoFingerprint r.file_identity) (sym same) asked.well
+    subst (λ (r : InputRule). IsNoFingerprint r.file_identity) (sym same) asked.opening
 
 -- nor one that takes the opening by which the file was followed for its asking
-pub followed_is_refused : IsByOneScan run (record scan { askings = record asking { opening = Some 3 } ∷ [] }) → ⊥
-followed_is_refused by = let at : 3 ≡ 1 = by.asks_in_order.made.1.0 in absurd (omega (arith, at))
+pub followed_is_refused : IsToldScan run (record scan { askings = record asking { opening = Some 3 } ∷ [] }) → ⊥
+followed_is_refused told = let at : 3 ≡ 1 = told.asks_in_order.made.1.0 in absurd (omega (arith, at))
 
 -- nor is a file followed whose tail was not asked
 pub unasked_is_refused : GivesKey input key a_log worked.file [] → ⊥
@@ -175,19 +171,33 @@ unasked_is_refused gave = let none : 2 ≡ 0 = gave.asking in absurd (omega (ari
 is_tail : IsTail trace 3 a_log 0 (asked ++ worked.looks)
 is_tail = record { in_this_run = lit≤ tt; begun = worked.sight; opened = refl; tells = refl }
 
-pub file_is_followed : IsFollowedFile run scan file
+pub file_is_followed : IsFollowedFile run file
 file_is_followed = record {
   rule_is = refl;
   gave = record { asking = is_asking; gave = refl };
   in_range = (lit≤ tt, lit≤ tt);
   file_is = refl;
   tail = is_tail;
-  told = told_file input.paths (Fingerprint 0 2) None key 3 asked (watch_in run) refl refl (
+  told = told_file input.paths (Fingerprint 0 2) None key 3 asked (watch_in run) refl (inl refl) (
     is_look input.paths (Fingerprint 0 2) None key 3 asked (look (ReadAt 0 2)) refl (λ some. lit≤ tt, λ none. cc),
     own_looks input.paths (Fingerprint 0 2) None key 3 asked,
   );
-  shown = worked.shown;
-  listed = record { number = 0; shows = shows_to; path_is = refl; first = first_path; before = (lit≤ tt, tt); starts = refl };
+  listed = record {
+    last = record {
+      front = [];
+      scan = scan;
+      behind = [];
+      scans_are = refl;
+      made_before = (lit≤ tt, tt);
+      none_nearer = tt;
+      number = 0;
+      shown = worked.shown;
+      shows = shows_to;
+      path_is = refl;
+      first = first_path;
+    };
+    begins = inl (record { number_is = refl; starts = refl });
+  };
   moment = inl refl;
   reopened = tt;
 }
@@ -208,19 +218,25 @@ asked_apart there = elim (there_cases 3 1 [] there) [
 
 -- ---- all of it
 
-pub has_told : RunTold run scan (file ∷ []) [] (worker ∷ []) (notes_by key)
+pub has_told : RunTold run (file ∷ []) [] (worker ∷ []) (notes_by key)
 has_told = record {
-  by = by_one_scan;
+  by = record {
+    scans = record { together = refl; by_globs = ((inl (worked.shown ∷ [], refl), tt), tt); full = tt; moments = ([], [], refl, tt) };
+    asked = tt;
+    each = (is_told, tt);
+    own_ids = record { no_colon = ((λ e. cc, tt), tt); ids_apart = (none_there worked.input.id, tt) };
+  };
   followed = record {
     each = (file_is_followed, tt);
     slots = (omega arith, tt);
     keys_apart = (none_there key, tt);
+    newly_known = (λ later. absurd (let above : 0 < 0 = later in omega (arith, above)), tt);
     openings_apart = (asked_apart, (none_there 3, tt));
     openings_serve = each_opening;
   };
   talks = (record { most = 2048; talks = has_talks 0 0; none_open = refl }, tt);
-  may_go = record { only = refl; each = tt; apart = tt };
-  behind = record { least = 1; files_below = (omega arith, tt); slots = tt };
+  may_go = record { each = tt; apart = tt };
+  behind = record { least = 1; files_below = (omega arith, tt); slots = tt; other_keys = λ one among hidden none. absurd (none_there hidden none) };
   told = record {
     each = (
       inl (record { file = file; of_files = (0, omega arith, refl); begins = record { path = a_log; changed = record { 0 = 0 }; is = refl; within = omega arith } }),
@@ -245,9 +261,14 @@ has_told = record {
 pub is_done : RunDone run scan (file ∷ []) (worker ∷ []) (notes_by key)
 is_done = record {
   full = record {
-    not_cut_off = refl;
-    none_failed = (record { root = root_in listing; depth = depth_in listing; entries = worked.shown ∷ []; listed = refl }, tt);
-    each_asked = each_asked;
+    earlier = [];
+    last = refl;
+    whole = record {
+      not_cut_off = refl;
+      none_failed = (record { root = root_in listing; depth = depth_in listing; entries = worked.shown ∷ []; listed = refl }, tt);
+      each_asked = each_asked;
+      none_faulty = (asked_well, tt);
+    };
   };
   served = served;
   whole = (

@@ -7,7 +7,7 @@ use Rattle.file_identity.specs.Key.{named_key, path_key}
 use Rattle.kept_rows.proofs.Worked.{entry, input, is_covered, key, only_entry, row, run, scan, settings, shown, slot_account, trace, whole, wires}
 use Rattle.kept_rows.specs.Account.{SlotAccount}
 use Rattle.kept_rows.specs.Lost.{IsRightlyLost}
-use Rattle.kept_rows.specs.Run.{Asking, Run}
+use Rattle.kept_rows.specs.Run.{Asking, Run, Scan}
 use Rattle.kept_rows.specs.Scans.{AsksFor, Gave, IsAsked, IsCovered, IsWhole, ShowsEntry, ShowsKey}
 use Rattle.outside.specs.Folders.{Listed, ListingFailed}
 use Rattle.outside.specs.declared.history.Shown.{Shown}
@@ -18,7 +18,6 @@ use Rattle.wire_base.specs.declared.note.Cause.TheVariants.{Acked}
 use Rattle.wire_base.specs.declared.note.Note.TheVariants.{Settle}
 use Rattle.wire_base.specs.declared.row.Row.{Row}
 use Rattle.accounts.specs.Hidden.{Hidden, IsApartFrom, MayAllGo, MayGo, hidden_begin, hidden_forget, hidden_key, with_hidden}
-use Rattle.accounts.proofs.HiddenFollowed.{apart_from_hidden}
 use Rattle.accounts.proofs.HiddenLost.{lost}
 
 -- ---- the run, whose registry had the rows of both files
@@ -39,7 +38,7 @@ abbrev asking : Asking
 asking = record { input = 0; path = codes "/w/a.log"; opening = None }
 
 abbrev hidden : Hidden
-hidden = record { slot = record { 0 = 1 }; row = absent_row; input = 0 }
+hidden = record { slot = record { 0 = 1 }; row = absent_row; input = 0; hidden_by = 0 }
 
 -- ---- what its scan shows
 
@@ -99,11 +98,22 @@ key_is_hidden shows =
     let letters : 98 ≡ 97 = ap (λ (l : List ℕ). get_or l 24 0) (only_key (hidden_key hidden) shows) in
     omega (arith, letters)
 
-may_go : MayGo the_run scan hidden
-may_go = record { rule = input; rule_is = refl; cleans = refl; key_of_input = record { rest = codes "path::/w/b.log"; spelled = refl }; found = refl; whole = is_whole; not_shown = key_is_hidden }
+may_go : MayGo the_run hidden
+may_go = record {
+  rule = input;
+  rule_is = refl;
+  cleans = refl;
+  key_of_input = record { rest = codes "path::/w/b.log"; spelled = refl };
+  found = refl;
+  scan = scan;
+  scan_is = refl;
+  whole = is_whole;
+  not_shown = key_is_hidden;
+  not_before = λ number other since until is. absurd (omega (arith, until));
+}
 
-may_all_go : MayAllGo the_run scan (hidden ∷ [])
-may_all_go = record { only = refl; each = (may_go, tt); apart = (none_there (hidden_key hidden), tt) }
+may_all_go : MayAllGo the_run (hidden ∷ [])
+may_all_go = record { each = (may_go, tt); apart = (none_there (hidden_key hidden), tt) }
 
 -- its slot stands behind that of the other file
 abbrev behind : SlotAccount
@@ -118,19 +128,28 @@ slot_is_behind : with_hidden (slot_account ∷ []) (hidden ∷ []) ≡ slot_acco
 slot_is_behind = refl
 
 slot_is_apart : AllByRecursion (IsApartFrom (hidden ∷ [])) (slot_account ∷ [])
-slot_is_apart = apart_from_hidden the_run scan (hidden ∷ []) may_all_go (slot_account ∷ []) (shows_key, tt)
+slot_is_apart = (
+  λ one there same. elim (there_cases hidden one [] there) [
+    | inl first ↦ key_is_hidden (subst (ShowsKey the_run scan) (same ∙ ap hidden_key (sym first)) shows_key)
+    | inr nothing ↦ none_there one nothing
+  ],
+  tt,
+)
 
-pub absent_row_is_rightly_lost : IsRightlyLost the_run (slot_account ∷ behind ∷ []) wires (path_key (codes "w") b_log)
-absent_row_is_rightly_lost = lost the_run scan (hidden ∷ []) may_all_go (slot_account ∷ []) wires hidden (first_there hidden []) slot_is_apart
+absent_row_is_rightly_lost : IsRightlyLost the_run (slot_account ∷ behind ∷ []) wires (path_key (codes "w") b_log)
+absent_row_is_rightly_lost = lost the_run (hidden ∷ []) may_all_go (slot_account ∷ []) wires hidden (first_there hidden []) slot_is_apart
 
 -- ---- what is refused
 
+its_scan : (other : Scan) → Some scan ≡ Some other → scan ≡ other
+its_scan other same = cc
+
 -- the row of the listed file
-listed_row_may_not_go : MayGo the_run scan (record { slot = record { 0 = 1 }; row = row; input = 0 }) → ⊥
-listed_row_may_not_go may = may.not_shown shows_key
+listed_row_may_not_go : MayGo the_run (record hidden { row = row }) → ⊥
+listed_row_may_not_go may = may.not_shown (subst (λ s. ShowsKey the_run s key) (its_scan may.scan may.scan_is) shows_key)
 
 -- a row that is not the opening one of its key
-other_row_may_not_go : MayGo the_run scan (record { slot = record { 0 = 1 }; row = record absent_row { offset = 8 }; input = 0 }) → ⊥
+other_row_may_not_go : MayGo the_run (record hidden { row = record absent_row { offset = 8 } }) → ⊥
 other_row_may_not_go may =
     let q : Some absent_row ≡ Some (record absent_row { offset = 8 }) = may.found in
     let same : absent_row ≡ record absent_row { offset = 8 } = cc in
@@ -141,7 +160,7 @@ other_row_may_not_go may =
 abbrev keeping_run : Run
 keeping_run = record the_run { settings = record settings { inputs = record input { clean_removed = false } ∷ [] } }
 
-row_of_keeping_input_may_not_go : MayGo keeping_run scan hidden → ⊥
+row_of_keeping_input_may_not_go : MayGo keeping_run hidden → ⊥
 row_of_keeping_input_may_not_go may =
     let q : Some (record input { clean_removed = false }) ≡ Some may.rule = may.rule_is in
     let rule : record input { clean_removed = false } ≡ may.rule = cc in
@@ -149,16 +168,17 @@ row_of_keeping_input_may_not_go may =
     cc
 
 -- one row twice
-row_goes_once : MayAllGo the_run scan (hidden ∷ hidden ∷ []) → ⊥
+row_goes_once : MayAllGo the_run (hidden ∷ hidden ∷ []) → ⊥
 row_goes_once may = may.apart.0 (first_there (hidden_key hidden) [])
 
 -- the row of a file that a scan hides of which a listing failed
 abbrev partial_run : Run
 partial_run = record the_run { trace = record trace { events = ListingFailed ∷ ListingFailed ∷ [] } }
 
-row_may_not_go_by_a_partial_scan : MayGo partial_run scan hidden → ⊥
+row_may_not_go_by_a_partial_scan : MayGo partial_run hidden → ⊥
 row_may_not_go_by_a_partial_scan may =
-    let listed = may.whole.none_failed.0 in
+    let whole = subst (IsWhole partial_run) (sym (its_scan may.scan may.scan_is)) may.whole in
+    let listed = whole.none_failed.0 in
     absurd (let q : Some ListingFailed ≡ Some (Listed listed.root listed.depth listed.entries) = listed.listed in cc)
 
 -- ---- what its notes make of the row

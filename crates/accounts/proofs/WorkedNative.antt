@@ -163,16 +163,30 @@ file = file_by input.paths Native (Some (18, 2049)) key 2 []
 is_tail : IsTail trace 2 a_log 0 worked.looks
 is_tail = record { in_this_run = lit≤ tt; begun = worked.sight; opened = refl; tells = refl }
 
-pub file_is_followed : IsFollowedFile run scan file
+pub file_is_followed : IsFollowedFile run file
 file_is_followed = record {
   rule_is = refl;
   gave = record { asking = refl; gave = key_is };
   in_range = (lit≤ tt, lit≤ tt);
   file_is = refl;
   tail = is_tail;
-  told = told_file input.paths Native (Some (18, 2049)) key 2 [] (watch_in run) refl refl (own_looks input.paths Native (Some (18, 2049)) key 2 []);
-  shown = behind;
-  listed = record { number = 0; shows = shows_behind; path_is = refl; first = first_path; before = (lit≤ tt, (lit≤ tt, tt)); starts = refl };
+  told = told_file input.paths Native (Some (18, 2049)) key 2 [] (watch_in run) refl (inl refl) (own_looks input.paths Native (Some (18, 2049)) key 2 []);
+  listed = record {
+    last = record {
+      front = [];
+      scan = scan;
+      behind = [];
+      scans_are = refl;
+      made_before = (lit≤ tt, (lit≤ tt, tt));
+      none_nearer = tt;
+      number = 0;
+      shown = behind;
+      shows = shows_behind;
+      path_is = refl;
+      first = first_path;
+    };
+    begins = inl (record { number_is = refl; starts = refl });
+  };
   moment = inl refl;
   reopened = tt;
 }

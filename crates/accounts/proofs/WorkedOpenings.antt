@@ -1,6 +1,6 @@
 -- What worked accounts of a file that was opened twice share: two scans list it. Its first tail told one line, and was closed where it
 -- read on, before the second scan; its second tail told one line, and reads on at its file's end.
-use Rattle.std.proofs.Common.{◌≡◌, ◌≢◌, inl, inr, ℕ, ◌==◌, List, [], ◌∷◌, ◌++◌, Contains, drop, length, Option, None, Some, codes, if◌then◌else◌, refl, sym, ap, subst, take, false, ◌∙◌, arith, lit≤, length-append, true}
+use Rattle.std.proofs.Common.{◌≡◌, ◌≢◌, inl, inr, ℕ, ◌==◌, ◌<◌, List, [], ◌∷◌, ◌++◌, Contains, drop, length, Option, None, Some, codes, if◌then◌else◌, refl, sym, ap, subst, take, false, ◌∙◌, arith, lit≤, length-append, true}
 use Rattle.std.specs.Option.{unwrap_or}
 use Rattle.std.specs.Prelude.{slice_get}
 use Rattle.std.specs.declared.cmp.Ordering.TheVariants.{Less}
@@ -157,7 +157,7 @@ module _ (own : Twice) where
   next_tail = tail_with next_opened own.looks
 
   abbrev pub filed : Filed
-  filed = record { opened = first_opened; turned = first_turned; looks = first_looks; changed = 0; later = next_opening ∷ [] }
+  filed = record { opened = first_opened; turned = first_turned; looks = first_looks; changed = 0; known_from = 0; later = next_opening ∷ [] }
 
   abbrev shown_by : List ℕ → ℕ → ℕ → Shown
   shown_by path in_life size =
@@ -355,7 +355,7 @@ module _ (own : Twice) (no_bytes : IsNoFingerprint own.identity) (named : named_
     (named_again : named_key (codes "w") own.identity own.path own.numbers ≡ Some own.key) (covered : IsCovered paths own.path)
     (not_before_itself : compare own.path own.path ≢ Less) (told : IsToldAgain own)
     (starts : start_in (next_opened own) ≡ goes_on 0 2 own.size) where
-  pub opened_twice : IsFollowedFile (run own) worked.scan (filed own)
+  pub opened_twice : IsFollowedFile (run own) (filed own)
   opened_twice = record {
     rule_is = refl;
     gave = gives_key own.identity own.numbers (file own).lives own.key a_log no_bytes named;
@@ -363,14 +363,21 @@ module _ (own : Twice) (no_bytes : IsNoFingerprint own.identity) (named : named_
     file_is = refl;
     tail = record { in_this_run = lit≤ tt; begun = worked.sight; opened = refl; tells = refl };
     told = first_told own;
-    shown = shown_by own a_log 0 4;
     listed = record {
-      number = 0;
-      shows = shows_to own no_bytes a_log 0 4 1 refl a_is_covered named;
-      path_is = refl;
-      first = first_path own no_bytes a_log 0 4 1 refl a_is_covered named worked.not_before_itself;
-      before = (lit≤ tt, tt);
-      starts = refl;
+      last = record {
+        front = [];
+        scan = worked.scan;
+        behind = scan_at 4 own.path ∷ [];
+        scans_are = refl;
+        made_before = (lit≤ tt, tt);
+        none_nearer = (λ shows before. absurd (let less : 4 < 2 = before.0 in omega (arith, less)), tt);
+        number = 0;
+        shown = shown_by own a_log 0 4;
+        shows = shows_to own no_bytes a_log 0 4 1 refl a_is_covered named;
+        path_is = refl;
+        first = first_path own no_bytes a_log 0 4 1 refl a_is_covered named worked.not_before_itself;
+      };
+      begins = inl (record { number_is = refl; starts = refl });
     };
     moment = inl refl;
     reopened = (
@@ -462,6 +469,6 @@ module _ (identity : IdentityRule) (numbers : Option (ℕ × ℕ)) (key path : L
     ),
   )
 
-  pub goes_on_from_the_told_end : IsFollowedFile (run own) worked.scan (filed own)
+  pub goes_on_from_the_told_end : IsFollowedFile (run own) (filed own)
   goes_on_from_the_told_end =
       opened_twice own no_bytes named named_again covered not_before_itself (next_told own going_on_is_telling going_on_looked going_on_tells) refl

@@ -31,7 +31,7 @@ unfolding is_utf8 encode_utf8 chars
 b_is_covered =
     (0, codes "/w/**", omega arith, refl, (IsUtf8-from_is_utf8 b_log refl, refl, (worked.covered.2.0, (worked.covered.2.1.0, (1, lit≤ tt, lit≤ tt, ((λ none. cc), tt), tt)))))
 
-pub is_followed : IsFollowedFile (run renamed) worked.scan (filed renamed)
+pub is_followed : IsFollowedFile (run renamed) (filed renamed)
 is_followed = goes_on_from_the_told_end Native (Some (18, 2049)) key b_log b_fate tt key_is key_is b_is_covered (λ less. absurd cc) refl
 
 -- one epoch, whose events have the paths of their tails

@@ -21,7 +21,7 @@ use Rattle.accounts.proofs.WorkedOpenings.{Twice, a_is_covered, filed, first_acc
 abbrev same_epoch : Twice
 same_epoch = going_on Path None worked.key a_log (ShippedAs (payload (codes "2") (codes "b")))
 
-pub is_followed : IsFollowedFile (run same_epoch) worked.scan (filed same_epoch)
+pub is_followed : IsFollowedFile (run same_epoch) (filed same_epoch)
 is_followed = goes_on_from_the_told_end Path None worked.key a_log same_epoch.fate tt refl refl a_is_covered worked.not_before_itself second_fate
 
 pub one_epoch_by_two_tails : (account_of placed (filed same_epoch)).epochs

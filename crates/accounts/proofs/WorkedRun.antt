@@ -1,5 +1,5 @@
 -- All that is asked of a run that is done holds of one at once: two plain lines that were read to their end, acknowledged in one talk.
-use Rattle.std.proofs.Common.{◌≡◌, ◌≢◌, ◌⊎◌, inl, inr, ℕ, zero, suc, List, [], ◌∷◌, ◌++◌, length, Option, Some, None, refl, sym, ap, subst, append-nil, arith, lit≤, codes, length-append, true, false}
+use Rattle.std.proofs.Common.{◌≡◌, ◌≢◌, ◌⊎◌, inl, inr, ℕ, zero, suc, List, [], ◌∷◌, ◌++◌, length, Option, Some, None, refl, sym, ap, subst, append-nil, arith, lit≤, codes, length-append, ◌<◌, true, false}
 use Rattle.std.specs.Prelude.{slice_get}
 use Rattle.batch_worker.specs.Ending.{HasTalks}
 use Rattle.event_tree.specs.declared.group_rule.GroupRule.TheVariants.{Single}
@@ -40,7 +40,7 @@ use Rattle.accounts.specs.FollowedFile.{IsFollowedFile, tail_of}
 use Rattle.accounts.specs.RunTold.{RunNotes, RunTold}
 use Rattle.accounts.specs.Taken.{Taken}
 use Rattle.accounts.specs.ToldFile.{IsToldFile}
-use Rattle.accounts.specs.Watch.{Watch}
+use Rattle.accounts.specs.Watch.{MayFindEnd, Watch}
 use Rattle.accounts.specs.Watched.{watch_in}
 use Rattle.accounts.proofs.Worked.{begin, history, opened, telling}
 
@@ -83,6 +83,7 @@ module _ (globs : List (List ℕ)) (identity : IdentityRule) (numbers : Option (
     turned = record { slot = record { 0 = 0 }; history = record history { rule = rule_by; begin = record begin { key = key }; before = asked } };
     looks = asked ++ worked.looks;
     changed = 0;
+    known_from = 0;
     later = [];
   }
 
@@ -131,10 +132,10 @@ module _ (globs : List (List ℕ)) (identity : IdentityRule) (numbers : Option (
     ),
   )
 
-  -- in a run that reads files once
-  pub told_file : (watch : Watch) → watch.processors ≡ [] → watch.once ≡ true → AreLooks file_by.opened.file worked.sight (asked ++ worked.looks) →
+  -- in a run that may find its end
+  pub told_file : (watch : Watch) → watch.processors ≡ [] → MayFindEnd watch file_by.opened → AreLooks file_by.opened.file worked.sight (asked ++ worked.looks) →
       IsToldFile watch file_by.opened (0 ∷ []) file_by.turned (Some (tail_of file_by))
-  told_file watch none once tells = record {
+  told_file watch none may_find tells = record {
     slot = refl;
     history = record {
       rule = refl;
@@ -146,7 +147,7 @@ module _ (globs : List (List ℕ)) (identity : IdentityRule) (numbers : Option (
       renamed = tt;
       path = refl;
       ends = λ ends. absurd (let no : false ≡ true = ends in cc);
-      may_end = λ may. inl once;
+      may_end = λ may. may_find;
       not_forgotten = refl;
       epochs = (refl, refl, tt);
       at = ([], [], refl, tt);
@@ -163,16 +164,30 @@ module _ (globs : List (List ℕ)) (identity : IdentityRule) (numbers : Option (
 abbrev file : Filed
 file = file_by worked.input.paths Path None worked.key 2 []
 
-followed_file : IsFollowedFile worked.run worked.scan file
+followed_file : IsFollowedFile worked.run file
 followed_file = record {
   rule_is = refl;
   gave = record { asking = refl; gave = refl };
   in_range = (lit≤ tt, lit≤ tt);
   file_is = refl;
   tail = record { in_this_run = lit≤ tt; begun = worked.sight; opened = refl; tells = refl };
-  told = told_file worked.input.paths Path None worked.key 2 [] (watch_in worked.run) refl refl (own_looks worked.input.paths Path None worked.key 2 []);
-  shown = worked.shown;
-  listed = record { number = 0; shows = worked.shows_to; path_is = refl; first = worked.first_path; before = (lit≤ tt, tt); starts = refl };
+  told = told_file worked.input.paths Path None worked.key 2 [] (watch_in worked.run) refl (inl refl) (own_looks worked.input.paths Path None worked.key 2 []);
+  listed = record {
+    last = record {
+      front = [];
+      scan = worked.scan;
+      behind = [];
+      scans_are = refl;
+      made_before = (lit≤ tt, tt);
+      none_nearer = tt;
+      number = 0;
+      shown = worked.shown;
+      shows = worked.shows_to;
+      path_is = refl;
+      first = worked.first_path;
+    };
+    begins = inl (record { number_is = refl; starts = refl });
+  };
   moment = inl refl;
   reopened = tt;
 }
@@ -249,26 +264,25 @@ in_order_by key = one_more_orderly (begins ∷ first_settled ∷ []) second_sett
 
 -- ---- all of it
 
-pub has_told : RunTold worked.run worked.scan (file ∷ []) [] (worker ∷ []) (notes_by worked.key)
+pub has_told : RunTold worked.run (file ∷ []) [] (worker ∷ []) (notes_by worked.key)
 has_told = record {
   by = record {
-    once = refl;
-    only = refl;
     scans = worked.is_account.followed.scans;
-    asked_well = worked.whole.none_faulty;
-    asks_in_order = worked.asks_in_order;
+    asked = tt;
+    each = (record { asked_so = (inl worked.whole.none_faulty.0, tt); asks_in_order = worked.asks_in_order }, tt);
     own_ids = record { no_colon = ((λ e. cc, tt), tt); ids_apart = (none_there worked.input.id, tt) };
   };
   followed = record {
     each = (followed_file, tt);
     slots = (omega arith, tt);
     keys_apart = (none_there worked.key, tt);
+    newly_known = (λ later. absurd (let above : 0 < 0 = later in omega (arith, above)), tt);
     openings_apart = (none_there 2, tt);
     openings_serve = worked.is_account.followed.openings_serve;
   };
   talks = (record { most = 2048; talks = has_talks 0 0; none_open = refl }, tt);
-  may_go = record { only = refl; each = tt; apart = tt };
-  behind = record { least = 1; files_below = (omega arith, tt); slots = tt };
+  may_go = record { each = tt; apart = tt };
+  behind = record { least = 1; files_below = (omega arith, tt); slots = tt; other_keys = λ one among hidden none. absurd (none_there hidden none) };
   told = record {
     each = (
       inl (record { file = file; of_files = (0, omega arith, refl); begins = record { path = a_log; changed = record { 0 = 0 }; is = refl; within = omega arith } }),
@@ -292,7 +306,7 @@ has_told = record {
 
 pub is_done : RunDone worked.run worked.scan (file ∷ []) (worker ∷ []) (notes_by worked.key)
 is_done = record {
-  full = record { not_cut_off = refl; none_failed = worked.whole.none_failed; each_asked = worked.whole.each_asked };
+  full = record { earlier = []; last = refl; whole = worked.whole };
   served = served;
   whole = (
     record {

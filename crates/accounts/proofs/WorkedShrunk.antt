@@ -78,7 +78,7 @@ tells = (
   ),
 )
 
-pub is_followed : IsFollowedFile (run shrunk) worked.scan (filed shrunk)
+pub is_followed : IsFollowedFile (run shrunk) (filed shrunk)
 is_followed = opened_twice shrunk tt refl refl a_is_covered worked.not_before_itself (next_told shrunk is_telling looked tells) refl
 
 -- ---- its account

@@ -23,12 +23,14 @@ pub record Opening : Type 0 where
   pub history : History
   pub looks : List Look
 
--- what its first tail told, the greatest moment of change that was noted of it, and the openings behind its first one, in order
+-- what its first tail told, the greatest moment of change that was noted of it, the number of the scan from which on its key is known, and the
+-- openings behind its first one, in order
 pub record Filed : Type 0 where
   pub opened : Opened
   pub turned : Turned
   pub looks : List Look
   pub changed : ℕ
+  pub known_from : ℕ
   pub later : List Opening
 
 abbrev pub slot_in : Filed → ℕ
@@ -88,7 +90,7 @@ following_of file = record {
   key = file.opened.begin.key;
   epoch = file.opened.begin.epoch.0;
   base = file.opened.begin.base;
-  known_from = 0;
+  known_from = file.known_from;
   gone_after = None;
   tails = tails_of (tails_in file);
 }

@@ -1,15 +1,17 @@
--- The files that a run follows, each by tails that were opened one by one (this project's profile): the one scan listed them, the folder
--- opened them by their paths and found their keys, and what their tails told stands in the folder's list. A tail is opened again only
--- after the one before it was closed; it goes on from the end of the last event that was told, in the same epoch where the file was
--- listed with at least that size, else from the first byte in the next one.
-use Rattle.std.specs.Prelude.{◌≡◌, ◌⊎◌, ℕ, ◌+◌, ◌≤◌, max, List, [], ◌∷◌, ◌++◌, Contains, flat_map, map, slice_get, Some}
+-- The files that a run follows, each by tails that were opened one by one (this project's profile): a scan listed them, the folder
+-- opened them by their paths and found their keys, and what their tails told stands in the folder's list. The first tail begins where the
+-- slot does. A tail is opened again only after the one before it was closed; it goes on from the end of the last event that was told, in the
+-- same epoch where the file was listed with at least that size, else from the first byte in the next one. By the last scan before an opening that showed
+-- the key it is known with which size and by which path the file was listed.
+use Rattle.std.specs.Prelude.{◌≡◌, ◌≢◌, ◌⊎◌, ℕ, zero, suc, ◌+◌, ◌<◌, ◌≤◌, max, true, length, List, [], ◌∷◌, ◌++◌, Contains, flat_map, map, slice_get, Option, Some}
 use Rattle.std.specs.List.{AllByRecursion}
 use Rattle.file_identity.specs.AskedAgain.{GivesKey}
 use Rattle.harvester.specs.History.{Asks, Changed, Ended, History, Over, Reads, Stage, told_to}
-use Rattle.kept_rows.specs.Followed.{IsClosedBefore, OnlyReads, Start, asked_openings, start_by}
+use Rattle.kept_rows.specs.Account.{Place}
+use Rattle.kept_rows.specs.Followed.{IsBegun, IsClosedBefore, IsNewlyKnown, OnlyReads, Start, asked_openings, start_by}
 use Rattle.kept_rows.specs.Run.{Run, Scan}
 use Rattle.kept_rows.specs.Scans.{AreDistinct, IsBefore, IsFirstPath, ShowsFileTo, ShowsKey, moment_in}
-use Rattle.kept_rows.specs.Telling.{opening_moment}
+use Rattle.kept_rows.specs.Telling.{MayEnd, opening_moment}
 use Rattle.kept_rows.specs.Trace.{IsTail}
 use Rattle.multiline_core.specs.Rule.{IsGroupRule}
 use Rattle.outside.specs.Folders.{Opened as OpenedAs}
@@ -19,7 +21,9 @@ use Rattle.outside.specs.declared.history.Shown.{Shown}
 use Rattle.outside.specs.declared.history.Sight.{Sight}
 use Rattle.ship_core.specs.Rows.{find}
 use Rattle.slot_parts.specs.Account.{goes_on}
-use Rattle.accounts.specs.Filed.{Filed, Opening, first_opening, slot_in, tail_by, told_both}
+use Rattle.wire_base.specs.declared.parcel.Parcel.{Parcel}
+use Rattle.wire_base.specs.declared.row.Row.{Row}
+use Rattle.accounts.specs.Filed.{Filed, Opening, account_of, first_opening, following_of, slot_in, tail_by, told_both}
 use Rattle.accounts.specs.Opened.{Opened}
 use Rattle.accounts.specs.ToldFile.{IsToldFile}
 use Rattle.accounts.specs.Watched.{watch_in}
@@ -41,25 +45,7 @@ key_in file = file.opened.begin.key
 abbrev pub start_in : Opened → Start
 start_in opened = record { epoch = opened.begin.epoch.0; base = opened.begin.base }
 
--- the scan shows this entry by its path, for its input, before it was opened, and its key by no earlier path; by the registry's row and the
--- entry's size it began. The entry is the one from which the listed file was made
-pub record IsListedAs (run : Run) (scan : Scan) (opened : Opened) (shown : Shown) : Type 0 where
-  pub number : ℕ
-  pub shows : ShowsFileTo run scan opened.begin.input opened.begin.key number shown
-  pub path_is : shown.entry.path ≡ opened.begin.path
-  pub first : IsFirstPath run scan opened.begin.key number opened.begin.path
-  pub before : IsBefore opened.opening scan
-  pub starts : start_in opened ≡ start_by (find opened.begin.key run.opening) shown.entry.size
-
--- the greater of the moment of the key's opening row and the one with which the entry was shown
-abbrev pub moment_by : Run → Filed → Shown → ℕ
-moment_by run file shown = max (opening_moment run.opening file.opened.begin.key) (moment_in shown)
-
--- the moment that was noted, or none yet above that of the opening row
-abbrev pub IsMomentOf : Run → Filed → Shown → Type 0
-IsMomentOf run file shown = (file.changed ≡ opening_moment run.opening file.opened.begin.key) ⊎ (file.changed ≡ moment_by run file shown)
-
--- ---- opened again
+-- ---- how it was listed
 
 -- the last scan before the opening that showed the key showed it by this path first
 pub record WasShownLast (run : Run) (opened : Opened) : Type 0 where
@@ -74,6 +60,55 @@ pub record WasShownLast (run : Run) (opened : Opened) : Type 0 where
   pub shows : ShowsFileTo run scan opened.begin.input opened.begin.key number shown
   pub path_is : shown.entry.path ≡ opened.begin.path
   pub first : IsFirstPath run scan opened.begin.key number opened.begin.path
+
+-- with what a slot begins by the scan of this number, from which on its key is known: from the registry's row and the listed size by the first
+-- scan of the run, from the first byte by a later one
+abbrev pub begins_by : ℕ → Option Row → ℕ → Start
+begins_by zero row size = start_by row size
+begins_by (suc earlier) row size = record { epoch = 0; base = 0 }
+
+-- its key is known from the scan on that listed it as it was opened first, and by that entry it began
+pub record BeginsThere (run : Run) (file : Filed) (shown : WasShownLast run file.opened) : Type 0 where
+  pub number_is : file.known_from ≡ length shown.front
+  pub starts : start_in file.opened ≡ begins_by file.known_from (find file.opened.begin.key run.opening) shown.shown.entry.size
+
+-- its key was known before: an earlier scan showed it, or the registry had its row. It was not opened until this scan listed it, with no less than the
+-- place at which it begins
+pub record BeganEarlier (run : Run) (file : Filed) (shown : WasShownLast run file.opened) : Type 0 where
+  pub earlier : file.known_from < length shown.front
+  pub begun : IsBegun run (following_of file)
+  pub within : file.opened.begin.base ≤ shown.shown.entry.size
+
+-- as it was opened first
+pub record IsListedAs (run : Run) (file : Filed) : Type 0 where
+  pub last : WasShownLast run file.opened
+  pub begins : BeginsThere run file last ⊎ BeganEarlier run file last
+
+-- ---- the moment of its last change
+
+-- the greater of the moment of the key's opening row and the one with which the entry was shown
+abbrev pub moment_by : Run → Filed → Shown → ℕ
+moment_by run file shown = max (opening_moment run.opening file.opened.begin.key) (moment_in shown)
+
+-- another scan since its key is known showed it by this entry, whose path was the first
+pub record WasShownAlso (run : Run) (file : Filed) (listed : IsListedAs run file) (shown : Shown) : Type 0 where
+  pub place : ℕ
+  pub scan : Scan
+  pub scan_is : slice_get run.scans place ≡ Some scan
+  pub since : file.known_from ≤ place
+  pub another : place ≢ length listed.last.front
+  pub number : ℕ
+  pub shows : ShowsFileTo run scan file.opened.begin.input file.opened.begin.key number shown
+  pub first : IsFirstPath run scan file.opened.begin.key number shown.entry.path
+
+-- the greatest that was noted: that of the opening row, or one with which a scan listed it
+abbrev pub IsMomentOf : (run : Run) (file : Filed) → IsListedAs run file → Type 0
+IsMomentOf run file listed =
+    (file.changed ≡ opening_moment run.opening file.opened.begin.key)
+    ⊎ ((file.changed ≡ moment_by run file listed.last.shown)
+    ⊎ ((shown : Shown) × WasShownAlso run file listed shown × (file.changed ≡ moment_by run file shown)))
+
+-- ---- opened again
 
 -- the tail was closed where it read on, at its file's end, or where the file had another key
 abbrev pub MayReopenAt : Stage → Type 0
@@ -108,17 +143,16 @@ AreReopened run first last so_far (next ∷ later) = IsReopened run first last s
 
 -- ---- together
 
--- `told` is what outlives its first harvester; the others stand in the settings, the scan and the folder's list
-pub record IsFollowedFile (run : Run) (scan : Scan) (file : Filed) : Type 0 where
+-- `told` is what outlives its first harvester; the others stand in the settings, the scans and the folder's list
+pub record IsFollowedFile (run : Run) (file : Filed) : Type 0 where
   pub rule_is : slice_get run.settings.inputs file.opened.begin.input ≡ Some file.opened.rule
   pub gave : GivesKey file.opened.rule file.opened.begin.key file.opened.begin.path file.opened.file file.opened.asked
   pub in_range : IsGroupRule file.opened.rule.multiline
   pub file_is : slice_get run.trace.files file.opened.number ≡ Some file.opened.file
   pub tail : IsTail run.trace file.opened.opening file.opened.begin.path file.opened.number file.looks
   pub told : IsToldFile (watch_in run) file.opened run.trace.moments file.turned (Some (tail_of file))
-  pub shown : Shown
-  pub listed : IsListedAs run scan file.opened shown
-  pub moment : IsMomentOf run file shown
+  pub listed : IsListedAs run file
+  pub moment : IsMomentOf run file listed
   pub reopened : AreReopened run file.opened (first_opening file) file.turned.history file.later
 
 -- the slots rise from this one on
@@ -132,11 +166,12 @@ EachOpeningIsOne run files = (opening : ℕ) (path : List ℕ) (number : ℕ) (b
     slice_get run.trace.events opening ≡ Some (OpenedAs path number begun) →
     Contains (flat_map openings_in files) opening ⊎ OnlyReads run.trace opening
 
--- in the order of their slots, which is that of the listed files; each key is there once, and each opening, those that only asked with
--- them
-pub record AreFollowedFiles (run : Run) (scan : Scan) (files : List Filed) : Type 0 where
-  pub each : AllByRecursion (IsFollowedFile run scan) files
+-- in the order of their slots; each key is there once, so one that a later scan than the first made known had no row and no other slot; and
+-- each opening, those that only asked with them
+pub record AreFollowedFiles (run : Run) (files : List Filed) : Type 0 where
+  pub each : AllByRecursion (IsFollowedFile run) files
   pub slots : AreInSlots 0 files
   pub keys_apart : AreDistinct (map key_in files)
+  pub newly_known : AllByRecursion (λ file. IsNewlyKnown run [] (following_of file)) files
   pub openings_apart : AreDistinct (asked_openings run ++ flat_map openings_in files)
   pub openings_serve : EachOpeningIsOne run files

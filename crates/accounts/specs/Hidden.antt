@@ -1,11 +1,11 @@
--- Rows that the run's scan hides (Filebeat reference, filestream input, `clean_removed`; this project's profile): a row of the registry, of an
--- input that cleans the rows of removed files, whose key a whole scan did not show. It has a slot of its own behind those of the files:
--- begun where the row stood, read by no tail, and gone by that scan.
+-- Rows that the scans of a run hide (Filebeat reference, filestream input, `clean_removed`; this project's profile): a row of the registry, of an
+-- input that cleans the rows of removed files, whose key a whole scan did not show, nor any scan before it. It has a slot of its own behind
+-- those of the files: begun where the row stood, read by no tail, and gone by that scan.
 use Rattle.std.specs.Prelude.{◌≡◌, ◌≢◌, ℕ, ◌+◌, ◌<◌, ◌≤◌, true, Contains, List, [], ◌∷◌, ◌++◌, map, slice_get, Some}
 use Rattle.std.specs.List.{AllByRecursion}
 use Rattle.event_tree.specs.declared.input_rule.InputRule.{InputRule}
 use Rattle.kept_rows.specs.Account.{SlotAccount, key_of}
-use Rattle.kept_rows.specs.Followed.{IsKeyOf}
+use Rattle.kept_rows.specs.Followed.{IsKeyOf, WasHidden}
 use Rattle.kept_rows.specs.Run.{Run, Scan}
 use Rattle.kept_rows.specs.Scans.{AreDistinct, IsWhole, ShowsKey}
 use Rattle.ship_core.specs.Rows.{find}
@@ -15,11 +15,12 @@ use Rattle.wire_base.specs.declared.numbers.Slot.{Slot}
 use Rattle.wire_base.specs.declared.row.Row.{Row}
 use Rattle.accounts.specs.Filed.{Filed, slot_in}
 
--- with the number of its input
+-- with the number of its input, and of the scan by which it goes
 pub record Hidden : Type 0 where
   pub slot : Slot
   pub row : Row
   pub input : ℕ
+  pub hidden_by : ℕ
 
 abbrev pub hidden_key : Hidden → List ℕ
 hidden_key hidden = hidden.row.key
@@ -46,7 +47,7 @@ hidden_account hidden = record {
     epoch = hidden.row.epoch.0;
     base = hidden.row.offset;
     known_from = 0;
-    gone_after = Some 0;
+    gone_after = Some hidden.hidden_by;
     tails = [];
   };
   number = 0;
@@ -63,20 +64,23 @@ with_hidden account hiddens = account ++ hidden_accounts hiddens
 
 -- ---- why they may go
 
--- it is the opening row of its key, of an input of the settings that cleans, and the scan, which was whole, did not show the key
-pub record MayGo (run : Run) (scan : Scan) (hidden : Hidden) : Type 0 where
+-- it is the opening row of its key, of an input of the settings that cleans; the scan by which it goes was whole and did not show the key, and no
+-- scan before it did
+pub record MayGo (run : Run) (hidden : Hidden) : Type 0 where
   pub rule : InputRule
   pub rule_is : slice_get run.settings.inputs hidden.input ≡ Some rule
   pub cleans : rule.clean_removed ≡ true
   pub key_of_input : IsKeyOf rule.id (hidden_key hidden)
   pub found : find (hidden_key hidden) run.opening ≡ Some hidden.row
+  pub scan : Scan
+  pub scan_is : slice_get run.scans hidden.hidden_by ≡ Some scan
   pub whole : IsWhole run scan
   pub not_shown : ¬ (ShowsKey run scan (hidden_key hidden))
+  pub not_before : WasHidden run (hidden_key hidden) 0 hidden.hidden_by
 
--- all of them, no two of one key; the scan is the only one of the run
-pub record MayAllGo (run : Run) (scan : Scan) (hiddens : List Hidden) : Type 0 where
-  pub only : run.scans ≡ scan ∷ []
-  pub each : AllByRecursion (MayGo run scan) hiddens
+-- all of them, no two of one key
+pub record MayAllGo (run : Run) (hiddens : List Hidden) : Type 0 where
+  pub each : AllByRecursion (MayGo run) hiddens
   pub apart : AreDistinct (map hidden_key hiddens)
 
 -- ---- their slots
@@ -86,11 +90,12 @@ abbrev pub AreHiddenFrom : ℕ → List Hidden → Type 0
 AreHiddenFrom least [] = Unit {0}
 AreHiddenFrom least (hidden ∷ hiddens) = (least ≤ hidden_slot hidden) × AreHiddenFrom (hidden_slot hidden + 1) hiddens
 
--- behind those of the files
+-- behind those of the files, and of other keys
 pub record AreBehind (files : List Filed) (hiddens : List Hidden) : Type 0 where
   pub least : ℕ
   pub files_below : AllByRecursion (λ file. slot_in file < least) files
   pub slots : AreHiddenFrom least hiddens
+  pub other_keys : (file : Filed) → Contains files file → (hidden : Hidden) → Contains hiddens hidden → file.opened.begin.key ≢ hidden_key hidden
 
 -- the slot is of another key than each of them
 abbrev pub IsApartFrom : List Hidden → SlotAccount → Type 0

@@ -1,5 +1,6 @@
 pub mod Accounted
 pub mod AccountedFor
+pub mod ByScans
 pub mod Failing
 pub mod Filed
 pub mod FollowedFile
@@ -7,7 +8,6 @@ pub mod Ground
 pub mod Hidden
 pub mod Numbers
 pub mod Once
-pub mod OneScan
 pub mod Opened
 pub mod Parted
 pub mod Places

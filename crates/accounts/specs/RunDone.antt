@@ -1,12 +1,13 @@
--- What is known besides of a run that ends as done (this project's profile): its scan was whole, each covered entry was followed or
--- skipped for its reason, each file is told to its end or has another key, and all that was told is settled and collected.
-use Rattle.std.specs.Prelude.{◌≡◌, ◌⊎◌, ℕ, List, [], ◌++◌, Contains, length, slice_get, Some}
+-- What is known besides of a run that ends as done (this project's profile): its last scan was whole, each covered entry of it was followed or
+-- skipped for its reason, each file is told to its end or has another key, and all that was told is settled and collected. A run that reads its
+-- files once makes no other scan.
+use Rattle.std.specs.Prelude.{◌≡◌, ◌⊎◌, ℕ, List, [], ◌∷◌, ◌++◌, Contains, slice_get, Some}
 use Rattle.std.specs.List.{AllByRecursion, flat_map}
 use Rattle.batch_worker.specs.Held.{notes_of}
 use Rattle.event_tree.specs.declared.input_rule.InputRule.{InputRule}
 use Rattle.kept_rows.specs.Drained.{IsPassedOver}
 use Rattle.kept_rows.specs.Run.{Run, Scan}
-use Rattle.kept_rows.specs.Scans.{AreAsked, IsCovered, IsGoodListing, ShowsEntry, ShowsFileTo, globs_in}
+use Rattle.kept_rows.specs.Scans.{IsCovered, IsWhole, ShowsEntry, ShowsFileTo}
 use Rattle.outside.specs.declared.history.Shown.{Shown}
 use Rattle.pass_sums.specs.Weight.{AsOften}
 use Rattle.ship_core.specs.RowOver.{moment_of, slot_of}
@@ -20,11 +21,11 @@ use Rattle.accounts.specs.Turned.{Turned, notes_told, parcels_told}
 
 -- ---- the scan
 
--- each glob was listed, no listing failed, and each entry that an input covers was asked for its key: so a scan gives its files
+-- no scan of the run is behind it, and it was whole; those before it may be partial
 pub record IsFullScan (run : Run) (scan : Scan) : Type 0 where
-  pub not_cut_off : length scan.listings ≡ length (globs_in run.settings.inputs)
-  pub none_failed : AllByRecursion (IsGoodListing run.trace) scan.listings
-  pub each_asked : AreAsked run scan
+  pub earlier : List Scan
+  pub last : run.scans ≡ earlier ++ scan ∷ []
+  pub whole : IsWhole run scan
 
 -- one of the files has the entry's path and the input, and the entry shows a file with its key
 pub record IsAmongFiles (run : Run) (scan : Scan) (files : List Filed) (shown : Shown) (input : ℕ) : Type 0 where

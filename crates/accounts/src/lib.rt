@@ -1,6 +1,7 @@
-//! What harvesters told in a run that makes one scan: from what their lanes gave to the account of the run. Files are known
-//! by their paths, by native numbers or by fingerprints. A file may be opened again after its tail was closed; what its tails
-//! told, one by one, is joined in one account. No run opens one twice yet.
+//! What harvesters told in a run: from what their lanes gave to the account of the run. A run makes scans, of which some may
+//! be partial; each file is known from one of them on. Files are known by their paths, by native numbers or by fingerprints.
+//! A file may be opened again after its tail was closed; what its tails told, one by one, is joined in one account. No run
+//! scans or opens a file twice yet.
 //!
 //! The history of each file gives a parcel for each event that is shipped, a settlement for each that a rule dropped, and
 //! an announcement for each epoch but the first. A turn of a harvester gives its lane just what its history then has more;
@@ -10,8 +11,8 @@
 //! While its tail is open, scans may tell that it was removed, or by which path it is known since (`Watch`): its end may be found
 //! only there or where files are read once, and each event has the path that the file had as it was told.
 //!
-//! A row of the registry that a whole scan hides, of an input that cleans the rows of removed files, has a slot of its own
-//! without a tail (`Hidden`): it begins where the row is, and the scan is why it goes.
+//! A row of the registry that a whole scan hides, as each scan before it, of an input that cleans the rows of removed files,
+//! has a slot of its own without a tail (`Hidden`): it begins where the row is, and the scan is why it goes.
 //!
 //! Of a run as it ends `RunTold` says what was told of its files, where that went and what the talks of its wires
 //! acknowledged; then its account is one of the run, rows over its notes are kept, also those that images hold, and only

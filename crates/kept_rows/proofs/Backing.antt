@@ -23,12 +23,12 @@ use Rattle.kept_rows.specs.Trace.{WireTold}
 -- ---- what some notes say of a slot
 
 -- a note of the slot is among the notes, and is of it
-note_of : (slot : ℕ) (notes : List Note) (note : Note) → Contains (notes_of slot notes) note → Contains notes note × (slot_named note ≡ slot)
+pub note_of : (slot : ℕ) (notes : List Note) (note : Note) → Contains (notes_of slot notes) note → Contains notes note × (slot_named note ≡ slot)
 note_of slot notes note there =
     let passed = there_passed (λ (n : Note). eqb (slot_named n) slot) notes note there in
     (passed.0, eqb-true (slot_named note) slot passed.1)
 
-backed : (account : List SlotAccount) (wires : List WireTold) (notes : List Note) (note : Note) → AreBacked account wires notes → Contains notes note → Backs account wires note
+pub backed : (account : List SlotAccount) (wires : List WireTold) (notes : List Note) (note : Note) → AreBacked account wires notes → Contains notes note → Backs account wires note
 backed account wires notes note all there = All-contains (Backs account wires) notes note (All-from_recursion (Backs account wires) notes all) there
 
 first_member : (starts : List Start) (start : Start) → first_start starts ≡ Some start → Contains starts start
@@ -451,9 +451,14 @@ row_stands notes slot row is = by_start (start_over (notes_of slot notes)) refl 
     by_start None none e = absurd (let q : None ≡ Some row = e in cc)
     by_start (Some start) begins e = by_gone start begins (is_gone start (notes_of slot notes)) refl e
 
+-- by the account of this slot
+pub row_is_told_at : (slot : ℕ) (row : Row) → ClosesBy → (account : List SlotAccount) (wires : List WireTold) (notes : List Note) → AreInRows account → AreBacked account wires notes →
+    row_over slot notes ≡ Some row → (told : IsToldRow account wires row) × (told.slot ≡ slot)
+row_is_told_at slot row closes account wires notes rows all is =
+    let row_is = row_stands notes slot row is in
+    subst (λ (r : Row). (told : IsToldRow account wires r) × (told.slot ≡ slot)) row_is.is
+    (standing_told closes account wires notes slot row_is.start all (standing_of account wires notes slot row_is.start rows all row_is.begins), refl)
+
 pub row_is_kept : ClosesBy → (account : List SlotAccount) (wires : List WireTold) (notes : List Note) (slot : ℕ) (row : Row) → AreInRows account → AreBacked account wires notes →
     row_over slot notes ≡ Some row → IsToldRow account wires row
-row_is_kept closes account wires notes slot row rows all is =
-    let row_is = row_stands notes slot row is in
-    subst (IsToldRow account wires) row_is.is
-    (standing_told closes account wires notes slot row_is.start all (standing_of account wires notes slot row_is.start rows all row_is.begins))
+row_is_kept closes account wires notes slot row rows all is = (row_is_told_at slot row closes account wires notes rows all is).0

@@ -16,9 +16,10 @@ use Rattle.ship_core.specs.RowsOver.{AreRowsOver, row_among, row_for, row_of_gre
 use Rattle.told_events.proofs.Going.{all_front}
 use Rattle.kept_rows.specs.Account.{SlotAccount, slot_of}
 use Rattle.kept_rows.specs.Backed.{AreBacked, AreBegun, AreInRows, AreRowsOverFronts, Backs, IsRowOverAFront}
-use Rattle.kept_rows.specs.Kept.{IsKept, IsKeptInImage, IsUnbegun, StandsAsOpened}
+use Rattle.kept_rows.specs.Kept.{IsKept, IsKeptInImage, IsNewestSlot, IsUnbegun, StandsAsOpened}
 use Rattle.kept_rows.specs.Trace.{WireTold}
-use Rattle.kept_rows.proofs.Backing.{ClosesBy, row_is_kept}
+use Rattle.kept_rows.proofs.Backing.{ClosesBy, row_is_kept, row_is_told_at}
+use Rattle.kept_rows.proofs.Newest.{NoneIsNewer, greatest_is_newest, newest_slot}
 
 -- a row that is found has the key
 pub found_key : (key : List ℕ) (rows : List Row) (row : Row) → find key rows ≡ Some row → key ≡ row.key
@@ -41,19 +42,26 @@ as_opened key opening row is = record {
   same_offset = refl;
 }
 
--- a row over notes is that of a slot, or the opening one of a key to which no Begin gave a slot
+-- a row over notes that is that of a slot, the newest of its key that has one
+pub record IsRowOfSlot (notes : List Note) (key : List ℕ) (row : Row) : Type 0 where
+  pub slot : ℕ
+  pub is : row_over slot notes ≡ Some row
+  pub newest : NoneIsNewer notes key slot
+
+-- so it is, or it is the opening one of a key to which no Begin gave a slot
 pub row_for_cases : (opening : List Row) (notes : List Note) (key : List ℕ) (row : Row) → row_for opening notes key ≡ Some row →
-    ((slot : ℕ) × (row_over slot notes ≡ Some row)) ⊎ ((slots_for key notes ≡ []) × (find key opening ≡ Some row))
+    IsRowOfSlot notes key row ⊎ ((slots_for key notes ≡ []) × (find key opening ≡ Some row))
 row_for_cases opening notes key row is = go (slots_for key notes) refl is
   where
-    greatest : (slots : List ℕ) → row_of_greatest notes slots ≡ Some row → (slot : ℕ) × (row_over slot notes ≡ Some row)
-    greatest [] e = absurd (let q : None ≡ Some row = e in cc)
-    greatest (slot ∷ slots) e = (fold max slot slots, e)
+    greatest : (slots : List ℕ) → filter (λ given. is_some (row_over given notes)) (slots_for key notes) ≡ slots → row_of_greatest notes slots ≡ Some row → IsRowOfSlot notes key row
+    greatest [] are e = absurd (let q : None ≡ Some row = e in cc)
+    greatest (slot ∷ slots) are e = record { slot = fold max slot slots; is = e; newest = greatest_is_newest notes key slot slots are }
 
     go : (slots : List ℕ) → slots_for key notes ≡ slots → row_among opening notes key slots ≡ Some row →
-        ((slot : ℕ) × (row_over slot notes ≡ Some row)) ⊎ ((slots_for key notes ≡ []) × (find key opening ≡ Some row))
+        IsRowOfSlot notes key row ⊎ ((slots_for key notes ≡ []) × (find key opening ≡ Some row))
     go [] none e = inr (none, e)
-    go (slot ∷ slots) some e = inl (greatest (filter (λ given. is_some (row_over given notes)) (slot ∷ slots)) e)
+    go (slot ∷ slots) some e =
+        inl (greatest (filter (λ given. is_some (row_over given notes)) (slot ∷ slots)) (ap (filter (λ given. is_some (row_over given notes))) some) e)
 
 pub kept_in_image : ClosesBy → (account : List SlotAccount) (opening : List Row) (wires : List WireTold) (notes : List Note) (rows : List Row) → AreInRows account →
     AreBacked account wires notes → AreRowsOverFronts opening notes rows → (key : List ℕ) (row : Row) → find key rows ≡ Some row → IsKeptInImage account opening wires row
@@ -61,7 +69,7 @@ kept_in_image closes account opening wires notes rows in_rows backed over key ro
     let front = over.each key in
     let backed_front = all_front (Backs account wires) front.front front.rest (subst (AreBacked account wires) front.notes_are backed) in
     elim (row_for_cases opening front.front key row (sym front.is ∙ is)) [
-      | inl slot ↦ inl (row_is_kept closes account wires front.front slot.0 row in_rows backed_front slot.1)
+      | inl of ↦ inl (row_is_kept closes account wires front.front of.slot row in_rows backed_front of.is)
       | inr opened ↦ inr (as_opened key opening row opened.1)
     ]
 
@@ -75,7 +83,13 @@ pub kept_at_the_end : ClosesBy → (account : List SlotAccount) (opening : List 
     AreBacked account wires notes → AreBegun account notes → AreRowsOver opening notes rows → (key : List ℕ) (row : Row) → find key rows ≡ Some row → IsKept account opening wires row
 kept_at_the_end closes account opening wires notes rows in_rows backed begun over key row is =
     elim (row_for_cases opening notes key row (sym (over.each key) ∙ is)) [
-      | inl slot ↦ inl (row_is_kept closes account wires notes slot.0 row in_rows backed slot.1)
+      | inl of ↦
+          let told = row_is_told_at of.slot row closes account wires notes in_rows backed of.is in
+          inl (record {
+            told = told.0;
+            newest = subst (IsNewestSlot account row.key) (sym told.1)
+                (subst (λ (k : List ℕ). IsNewestSlot account k of.slot) (found_key key rows row is) (newest_slot account wires notes backed begun key of.slot of.newest));
+          })
       | inr opened ↦ inr (
         subst (IsUnbegun account) (found_key key opening row opened.1) (unbegun account notes key begun opened.0),
         as_opened key opening row opened.1,

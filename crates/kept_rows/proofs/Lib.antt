@@ -8,6 +8,7 @@ pub mod Images
 pub mod Joining
 pub mod Keys
 pub mod Links
+pub mod Newest
 pub mod Showing
 pub mod Storing
 pub mod Supposing

@@ -117,6 +117,6 @@ module _ (account : List SlotAccount) (wires : List WireTold) (notes : List Note
     pub stored_at_the_end : (opening rows : List Row) → AreBegun account notes → AreRowsOver opening notes rows → (key : List ℕ) (row : Row) → find key rows ≡ Some row → IsStored account wires row
     stored_at_the_end opening rows begun over key row is =
         elim (row_for_cases opening notes key row (sym (over.each key) ∙ is)) [
-          | inl slot ↦ inl (row_is_stored slot.0 row slot.1)
+          | inl of ↦ inl (row_is_stored of.slot row of.is)
           | inr opened ↦ inr (subst (IsUnbegun account) (found_key key opening row opened.1) (unbegun account notes key begun opened.0))
         ]

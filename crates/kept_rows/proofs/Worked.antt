@@ -1,9 +1,9 @@
 -- A worked account: the file of two plain lines, read once, both events acknowledged. The row at its end is kept, the
 -- folder is drained, only told events were sent, and the premises hold. Before the run the folder took a tail of another
 -- folder back, which had the number that the run's own opening gets only later.
-use Rattle.std.proofs.Common.{◌≡◌, ◌≢◌, inl, inr, ℕ, zero, suc, ◌<◌, ◌≤◌, true, false, List, [], ◌∷◌, ◌++◌, Some, None, refl, sym, ap, ◌∙◌, subst, arith, append-nil, lit≤, codes}
+use Rattle.std.proofs.Common.{◌≡◌, ◌≢◌, inl, inr, ℕ, zero, suc, ◌<◌, ◌≤◌, true, false, List, [], ◌∷◌, ◌++◌, IsSome, Some, None, refl, sym, ap, ◌∙◌, subst, arith, append-nil, lit≤, codes}
 use Rattle.std.specs.Char.{encode_utf8}
-use Rattle.std.specs.List.{AllByRecursion, Contains, slice_get}
+use Rattle.std.specs.List.{AllByRecursion, Contains, slice_get, slice_index_or}
 use Rattle.std.specs.Str.{chars, is_utf8}
 use Rattle.std.proofs.lemmas.Str.{IsUtf8-from_is_utf8}
 use Rattle.std.specs.declared.cmp.Ordering.TheVariants.{Less}
@@ -39,14 +39,15 @@ use Rattle.told_events.specs.Rules.{rules_of}
 use Rattle.wire_base.specs.declared.row.Row.{Row}
 use Rattle.wire_base.specs.declared.talk.Piece.TheVariants.{In, Out}
 use Rattle.wire_base.specs.KeyOrder.{compare}
-use Rattle.kept_rows.specs.Account.{AccountedEvent, EpochAccount, FollowedTail, Following, Place, Reading, SlotAccount}
+use Rattle.kept_rows.proofs.Backing.{slot_in}
+use Rattle.kept_rows.specs.Account.{AccountedEvent, EpochAccount, FollowedTail, Following, Place, Reading, SlotAccount, slot_of}
 use Rattle.kept_rows.specs.Acknowledged.{IsAcknowledgedAt}
 use Rattle.kept_rows.specs.Askings.{AsksInOrder}
 use Rattle.kept_rows.specs.Drained.{IsDoneWith, IsDrained, IsDrainedBySlots, NothingSupposed}
 use Rattle.kept_rows.specs.Epochs.{GoesOnFrom, WasListedWith}
 use Rattle.file_identity.specs.AskedAgain.{StillHasKey}
 use Rattle.kept_rows.specs.Followed.{AreFollowed, EachOpeningServes}
-use Rattle.kept_rows.specs.Kept.{IsKept}
+use Rattle.kept_rows.specs.Kept.{IsKept, IsNewestRow, IsNewestSlot, IsToldRow}
 use Rattle.kept_rows.specs.Premises.{Premises, SeesTruncationsOf, TailKeepsIdentity, WasKnown}
 use Rattle.kept_rows.specs.Run.{Asking, Run, Scan}
 use Rattle.kept_rows.specs.Scans.{AllButTheLast, AreAsked, AsksFor, Gave, IsAsked, IsCovered, IsFirstPath, IsNoFingerprint, IsWhole, ShowsEntry, ShowsFile, ShowsFileTo}
@@ -169,6 +170,17 @@ covered = (IsUtf8-from_is_utf8 a_log refl, refl, (tt, ((refl, tt), ((5, omega ar
 
 pub is_covered : IsCovered input.paths a_log
 is_covered = (0, codes "/w/*", omega arith, refl, covered)
+
+-- a path below a folder that the glob covers
+abbrev pub deeper : List ℕ
+deeper = codes "/w/x/a.log"
+
+pub deeper_is_not_covered : IsCovered input.paths deeper → ⊥
+deeper_is_not_covered in_glob = by_glob in_glob.0 in_glob.1 in_glob.2 in_glob.3 in_glob.4
+  where
+    by_glob : (number : ℕ) (glob : List ℕ) → number < 1 → slice_index_or input.paths number glob ≡ glob → Covers glob deeper → ⊥
+    by_glob zero glob within is covers = (subst (λ (g : List ℕ). Covers g deeper) (sym is) covers).2.1.1.1
+    by_glob (suc number) glob within is covers = omega (arith, within)
 
 pub entry : ShowsEntry trace scan shown
 entry = record { listing = 1; of_scan = (0, omega arith, refl); root = root_of (codes "/w/*"); depth = depth_of (codes "/w/*"); entries = shown ∷ []; listed = refl; among = (0, omega arith, refl) }
@@ -407,11 +419,11 @@ window = record { some = omega arith; few = omega arith; each = (omega arith, (o
 acknowledged : Acknowledges talk.pieces payloads
 acknowledged = record { windows = payloads ∷ []; sent = record { each = (window, tt); rest = []; whole = sym (append-nil (window_bytes payloads ++ [])); cut = none_in_nothing }; are = refl }
 
-stands_at : (number : ℕ) (text : List ℕ) → slice_get payloads number ≡ Some text → IsAcknowledgedAt wires text (at number)
+pub stands_at : (number : ℕ) (text : List ℕ) → slice_get payloads number ≡ Some text → IsAcknowledgedAt wires text (at number)
 stands_at number text is = record { wire = record { outcomes = Finished talk 0 0 ∷ []; open_talk = None }; wire_is = refl; talk = talk.pieces; talk_is = refl; acknowledged = payloads; acknowledges = acknowledged; stands = is }
 
-pub both_lines_are_kept : IsKept (slot_account ∷ []) [] wires row
-both_lines_are_kept = inl (record {
+abbrev pub both_lines_are_told : IsToldRow (slot_account ∷ []) wires row
+both_lines_are_told = record {
   slot = 0;
   one = slot_account;
   slot_is = refl;
@@ -419,7 +431,25 @@ both_lines_are_kept = inl (record {
   epoch = epoch_account;
   epoch_is = refl;
   closes = record { front = accounted; rest = []; told_is = refl; each = (stands_at 0 (payload (codes "0") (codes "a")) refl, (stands_at 1 (payload (codes "2") (codes "b")) refl, tt)); ends = refl };
-})
+}
+
+only_slot : IsNewestSlot (slot_account ∷ []) key 0
+only_slot newer one is same above =
+    let of = slot_in (slot_account ∷ []) newer one is in
+    elim (there_cases slot_account one [] of.0) [
+      | inl here ↦ absurd (let slot : 0 ≡ newer = ap slot_of here ∙ of.1 in omega (arith, slot, above))
+      | inr nothing ↦ absurd (none_there one nothing)
+    ]
+
+pub both_lines_are_kept : IsKept (slot_account ∷ []) [] wires row
+both_lines_are_kept = inl (record { told = both_lines_are_told; newest = only_slot })
+
+-- where a newer slot of the key is not gone, the row of this one is not
+abbrev newer : SlotAccount
+newer = record slot_account { following = record following { slot = 1; known_from = 1; tails = [] } }
+
+older_slot_is_refused : (is : IsNewestRow (slot_account ∷ newer ∷ []) wires row) → is.told.slot ≡ 0 → ⊥
+older_slot_is_refused is older = absurd (let none : IsSome newer.following.gone_after = is.newest 1 newer refl refl (omega (arith, older)) in cc)
 
 -- ---- the folder is drained
 

@@ -1,5 +1,5 @@
 -- Notes that are backed by an account (this project's profile): a Begin names the key, the epoch and the place with which
--- its slot was begun; an Announce names an epoch that the slot had, and a Forget the last one and its last told place; a Settle is of a told event that its rule
+-- its slot was begun; an Announce names an epoch that the slot had, and a Forget, of a slot that is gone, the last one and its last told place; a Settle is of a told event that its rule
 -- drops, or whose payload is acknowledged at the place that the account gives it; no moment is above the greatest that was
 -- noted of the slot. A Rename says nothing of offsets.
 use Rattle.std.specs.Prelude.{◌≡◌, ℕ, ◌≤◌, List, [], ◌∷◌, ◌++◌, Contains, Some, IsSome}
@@ -42,10 +42,11 @@ pub record BacksSettle (account : List SlotAccount) (wires : List WireTold) (slo
   pub cause_is : cause_of_fate one.event.fate ≡ cause
   pub settled : IsSettled wires one
 
--- the epoch is the slot's last, and the place is the end of what was told of it
+-- the slot is gone, the epoch is its last, and the place is the end of what was told of it
 pub record BacksForget (account : List SlotAccount) (slot epoch end : ℕ) : Type 0 where
   pub one : SlotAccount
   pub slot_is : slot_at slot account ≡ Some one
+  pub gone : IsSome one.following.gone_after
   pub earlier : List EpochAccount
   pub last : EpochAccount
   pub epochs_are : one.epochs ≡ earlier ++ last ∷ []

@@ -1,7 +1,7 @@
 -- Kept rows (this project's profile of Filebeat's registry): the offset is the place from which the row's epoch is told, or
 -- ends the last of the first told events of that epoch, each of which was dropped by its rule or is acknowledged at the
 -- place that the account gives it. A row of a key that was not begun stands as the run found it.
-use Rattle.std.specs.Prelude.{◌≡◌, ◌≢◌, ◌⊎◌, ℕ, List, ◌++◌, Option, Some, None}
+use Rattle.std.specs.Prelude.{◌≡◌, ◌≢◌, ◌⊎◌, ℕ, ◌<◌, List, ◌++◌, Option, Some, None, IsSome}
 use Rattle.std.specs.List.{AllByRecursion}
 use Rattle.ship_core.specs.CoveredEnd.{last_end}
 use Rattle.ship_core.specs.Rows.{find}
@@ -28,7 +28,7 @@ pub record ClosesSettled (wires : List WireTold) (epoch : EpochAccount) (offset 
   pub each : AllByRecursion (IsSettled wires) front
   pub ends : last_end epoch.start (spans_of front) ≡ offset
 
--- by the account of its slot
+-- by the account of a slot of its key: in an image a newer one may not have its row yet
 pub record IsToldRow (account : List SlotAccount) (wires : List WireTold) (row : Row) : Type 0 where
   pub slot : ℕ
   pub one : SlotAccount
@@ -37,6 +37,16 @@ pub record IsToldRow (account : List SlotAccount) (wires : List WireTold) (row :
   pub epoch : EpochAccount
   pub epoch_is : epoch_at row.epoch.0 one.epochs ≡ Some epoch
   pub closes : ClosesSettled wires epoch row.offset
+
+-- each newer slot of the key is gone
+abbrev pub IsNewestSlot : List SlotAccount → List ℕ → ℕ → Type 0
+IsNewestSlot account key slot =
+    (newer : ℕ) (one : SlotAccount) → slot_at newer account ≡ Some one → key_of one ≡ key → slot < newer → IsSome one.following.gone_after
+
+-- by the account of the newest slot of its key that is not gone
+pub record IsNewestRow (account : List SlotAccount) (wires : List WireTold) (row : Row) : Type 0 where
+  pub told : IsToldRow account wires row
+  pub newest : IsNewestSlot account row.key told.slot
 
 -- the row stands where it stood as the registry was opened
 pub record StandsAsOpened (opening : List Row) (row : Row) : Type 0 where
@@ -51,7 +61,7 @@ IsUnbegun account key = AllByRecursion (λ one. key_of one ≢ key) account
 
 -- of the rows that a run ends with
 abbrev pub IsKept : List SlotAccount → List Row → List WireTold → Row → Type 0
-IsKept account opening wires row = IsToldRow account wires row ⊎ (IsUnbegun account row.key × StandsAsOpened opening row)
+IsKept account opening wires row = IsNewestRow account wires row ⊎ (IsUnbegun account row.key × StandsAsOpened opening row)
 
 -- of the rows that a crash leaves, or that a run leaves whose disk or sink failed, or that found no memory
 abbrev pub IsKeptInImage : List SlotAccount → List Row → List WireTold → Row → Type 0

@@ -16,6 +16,7 @@ use Rattle.glob_paths.specs.Cover.{Covers}
 use Rattle.glob_paths.specs.Root.{depth_of, root_of}
 use Rattle.outside.specs.declared.history.Look.{Look}
 use Rattle.outside.specs.declared.history.Shown.{Shown}
+use Rattle.outside.specs.declared.history.Sight.{Sight}
 use Rattle.outside.specs.Files.{File}
 use Rattle.outside.specs.Folders.{Event, Listed, ListingFailed, Opened, NotThere, OpeningFailed, Closed}
 use Rattle.wire_base.specs.declared.numbers.TheConstants.{MAX_MOMENT}
@@ -192,6 +193,31 @@ pub record WasAskedWell (run : Run) (scan : Scan) (asking : Asking) : Type 0 whe
   pub rule : InputRule
   pub rule_is : slice_get run.settings.inputs asking.input ≡ Some rule
   pub well : MetNoFault run.trace rule.file_identity asking.path asking.opening
+
+-- the file was opened there by the path, and its tail was closed with faults
+pub record WasClosedWithFaults (trace : Trace) (path : List ℕ) (opening : ℕ) : Type 0 where
+  pub number : ℕ
+  pub begun : Sight
+  pub opened : slice_get trace.events opening ≡ Some (Opened path number begun)
+  pub looks : List Look
+  pub faults : ℕ
+  pub some : 0 < faults
+  pub closing : closing_of trace opening ≡ Some (record { looks = looks; faults = faults })
+
+-- opening the file by the path failed, or reading it did
+abbrev pub MetFault : Trace → List ℕ → ℕ → Type 0
+MetFault trace path opening = (slice_get trace.events opening ≡ Some (OpeningFailed path)) ⊎ WasClosedWithFaults trace path opening
+
+-- it was opened in the scan to be asked for its key
+pub record WasAskedInVain (run : Run) (scan : Scan) (asking : Asking) : Type 0 where
+  pub opening : ℕ
+  pub opening_is : asking.opening ≡ Some opening
+  pub asked_in : IsMadeFor run scan opening
+  pub failed : MetFault run.trace asking.path opening
+
+-- so each asking of a scan is told
+abbrev pub WasAskedSo : Run → Scan → Asking → Type 0
+WasAskedSo run scan asking = WasAskedWell run scan asking ⊎ WasAskedInVain run scan asking
 
 -- the input asked for the key of the entry
 pub record IsAsked (run : Run) (scan : Scan) (shown : Shown) (input : ℕ) : Type 0 where

@@ -1,5 +1,5 @@
 -- The rows of the registry that are removed, and that they may go: the scan did not show their keys.
-use Rattle.std.proofs.Common.{◌≡◌, ◌⊎◌, inl, inr, ℕ, zero, suc, ◌+◌, Contains, List, [], ◌∷◌, ◌++◌, length, map, take, Some, refl, sym, subst, ◌∙◌, arith, append_assoc, append-nil}
+use Rattle.std.proofs.Common.{◌≡◌, ◌⊎◌, inl, inr, ℕ, zero, suc, ◌+◌, Contains, List, [], ◌∷◌, ◌++◌, length, map, take, Some, refl, sym, ap, subst, ◌∙◌, arith, append_assoc, append-nil}
 use Rattle.std.proofs.lemmas.Option.{slice_get_read}
 use Rattle.std.proofs.lemmas.List.Elements.{Contains-append_right}
 use Rattle.std.specs.Prelude.{slice_get}
@@ -60,9 +60,11 @@ module _ (inputs : List InputRule) (listed : List Listed) where
     pub among : Contains rows hidden.row
     pub removed : IsRemoved inputs listed (hidden_key hidden)
     pub input_is : removed.cleaned.0 ≡ hidden.input
+    -- it goes by the first scan
+    pub first : hidden.hidden_by ≡ 0
 
   later_hidden : (row : Row) (rows : List Row) (hidden : Hidden) → IsHiddenOf rows hidden → IsHiddenOf (row ∷ rows) hidden
-  later_hidden row rows hidden of = record { among = later_there row hidden.row rows of.among; removed = of.removed; input_is = of.input_is }
+  later_hidden row rows hidden of = record { among = later_there row hidden.row rows of.among; removed = of.removed; input_is = of.input_is; first = of.first }
 
   pub each_is_hidden_of : (slot : ℕ) (rows : List Row) (hiddens : List Hidden) (hidden : Hidden) → AreHiddenAmong inputs listed slot rows hiddens → Contains hiddens hidden → IsHiddenOf rows hidden
   each_is_hidden_of slot [] hiddens hidden are there = absurd (none_there hidden (subst (λ (l : List Hidden). Contains l hidden) are there))
@@ -71,7 +73,7 @@ module _ (inputs : List InputRule) (listed : List Listed) where
       by_place (there_cases (hidden_as inputs slot row goes.removed.cleaned) hidden goes.later (subst (λ (l : List Hidden). Contains l hidden) goes.are there)) (each_is_hidden_of (suc slot) rows goes.later hidden goes.rest)
     where
       by_place : (hidden_as inputs slot row goes.removed.cleaned ≡ hidden) ⊎ Contains goes.later hidden → (Contains goes.later hidden → IsHiddenOf rows hidden) → IsHiddenOf (row ∷ rows) hidden
-      by_place (inl same) later = subst (IsHiddenOf (row ∷ rows)) same (record { among = first_there row rows; removed = goes.removed; input_is = refl })
+      by_place (inl same) later = subst (IsHiddenOf (row ∷ rows)) same (record { among = first_there row rows; removed = goes.removed; input_is = refl; first = refl })
       by_place (inr behind) later = later_hidden row rows hidden (later behind)
 
   -- one that is removed is among them
@@ -144,8 +146,8 @@ module _ (inputs : List InputRule) (listed : List Listed) where
 -- where its one scan was whole and showed no key of a row that is removed, all of these may go
 module _ (run : Run) (scan : Scan) (listed : List Listed) (hiddens : List Hidden) (so_far : AreHiddenSoFar run.settings.inputs listed run.opening hiddens)
     (not_shown : (key : List ℕ) → IsRemoved run.settings.inputs listed key → ¬ (ShowsKey run scan key)) (whole : IsWhole run scan) where
-  may_go : (hidden : Hidden) → Contains hiddens hidden → MayGo run scan hidden
-  may_go hidden there =
+  may_go : run.scans ≡ scan ∷ [] → (hidden : Hidden) → Contains hiddens hidden → MayGo run hidden
+  may_go only hidden there =
       let of = each_is_hidden_of run.settings.inputs listed (length listed) (take so_far.count run.opening) hiddens hidden so_far.are there in
       let cleaned = of.removed.cleaned in
       record {
@@ -154,13 +156,15 @@ module _ (run : Run) (scan : Scan) (listed : List Listed) (hiddens : List Hidden
         cleans = cleaned.4.0;
         key_of_input = cleaned.4.1;
         found = found_by_its_key run.opening hidden.row so_far.ordered (take_there so_far.count run.opening hidden.row of.among);
+        scan = scan;
+        scan_is = ap (slice_get run.scans) of.first ∙ ap (λ (l : List Scan). slice_get l 0) only;
         whole = whole;
         not_shown = not_shown (hidden_key hidden) of.removed;
+        not_before = λ number other since until is. absurd (let first = of.first in omega (arith, first, until));
       }
 
-  pub may_all_go : run.scans ≡ scan ∷ [] → MayAllGo run scan hiddens
+  pub may_all_go : run.scans ≡ scan ∷ [] → MayAllGo run hiddens
   may_all_go only = record {
-    only = only;
-    each = each_member (MayGo run scan) hiddens may_go;
+    each = each_member (MayGo run) hiddens (may_go only);
     apart = hidden_apart run.settings.inputs listed (length listed) (take so_far.count run.opening) hiddens (take_ordered so_far.count run.opening so_far.ordered) so_far.are;
   }

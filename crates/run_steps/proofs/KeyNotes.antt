@@ -21,7 +21,7 @@ use Rattle.accounts.specs.ToldNotes.{IsKnownNote}
 use Rattle.kept_rows.proofs.Begun.{ForgetNone}
 use Rattle.kept_rows.specs.Account.{Place, SlotAccount, key_of}
 use Rattle.kept_rows.specs.Kept.{IsUnbegun}
-use Rattle.kept_rows.specs.Run.{Run, Scan}
+use Rattle.kept_rows.specs.Run.{Run}
 use Rattle.ship_core.proofs.Members.{first_there, later_there, none_there, there_cases, there_given}
 use Rattle.ship_core.specs.RowOver.{notes_of, slot_of}
 use Rattle.ship_core.specs.RowsOver.{slot_for, slots_for}
@@ -37,12 +37,12 @@ pub record IsHiddenKey (hiddens : List Hidden) (key : List ℕ) : Type 0 where
   pub there : Contains hiddens hidden
   pub key_is : hidden_key hidden ≡ key
 
-module _ (run : Run) (scan : Scan) (files : List Filed) (hiddens : List Hidden) (workers : List Taken) (notes : RunNotes) (told : RunTold run scan files hiddens workers notes) where
+module _ (run : Run) (files : List Filed) (hiddens : List Hidden) (workers : List Taken) (notes : RunNotes) (told : RunTold run files hiddens workers notes) where
   abbrev Known : Note → Type 0
   Known = IsKnownNote files hiddens (acknowledged_in workers)
 
   each_known : AllByRecursion Known notes.all
-  each_known = (are_notes run scan files hiddens workers notes told).each
+  each_known = (are_notes run files hiddens workers notes told).each
 
   -- ---- who begins a slot for a key
 
@@ -130,7 +130,7 @@ module _ (run : Run) (scan : Scan) (files : List Filed) (hiddens : List Hidden) 
         where
           by_whose : IsOfFile key slot ⊎ IsOfRow key slot → ForgetNone (notes_of slot notes.all)
           by_whose (inl of) = subst (λ (n : ℕ). ForgetNone (notes_of n notes.all)) of.slot_is
-              (none_forgotten files hiddens (acknowledged_in workers) notes.all (slots_apart 0 files told.followed.slots) told.behind (are_notes run scan files hiddens workers notes told) of.file of.among)
+              (none_forgotten files hiddens (acknowledged_in workers) notes.all (slots_apart 0 files told.followed.slots) told.behind (are_notes run files hiddens workers notes told) of.file of.among)
           by_whose (inr of) = absurd (none of.hidden of.there of.key_is)
 
       by_case : IsHiddenKey hiddens key ⊎ ((hidden : Hidden) → Contains hiddens hidden → hidden_key hidden ≢ key) → KeepsItsSlots notes.all key ⊎ IsHiddenKey hiddens key

@@ -1,20 +1,19 @@
 -- A run that reads its files once is a run around its one scan: all listings are the scan's, and each opening that was made for a key is of one input.
-use Rattle.std.proofs.Common.{◌≡◌, ◌≤◌, ℕ, true, List, [], ◌∷◌, ◌++◌, Contains, drop, length, append-nil, Some, refl, sym, ap, ◌∙◌, arith}
+use Rattle.std.proofs.Common.{◌≡◌, ◌≤◌, inl, ℕ, true, List, [], ◌∷◌, ◌++◌, Contains, drop, length, append-nil, Some, refl, sym, ap, ◌∙◌, arith}
 use Rattle.std.proofs.Math.Seq.{drop-append_seam}
 use Rattle.std.specs.List.{AllByRecursion}
-use Rattle.accounts.specs.OneScan.{IsByOneScan}
-use Rattle.accounts.specs.RunDone.{IsFullScan}
+use Rattle.accounts.proofs.Lists.{each_then}
+use Rattle.accounts.specs.ByScans.{IsByScans}
 use Rattle.kept_rows.proofs.Showing.{both}
 use Rattle.kept_rows.specs.Drained.{IsOfNoOther}
 use Rattle.kept_rows.specs.Run.{Run, Scan}
-use Rattle.kept_rows.specs.Scans.{AreScans, IsWhole, listings_from, listings_of}
+use Rattle.kept_rows.specs.Scans.{AreScans, WasAskedSo, WasAskedWell, listings_from, listings_of}
 use Rattle.kept_rows.specs.Trace.{WireTold}
 use Rattle.outside.specs.Folders.{Event, FolderHistory}
 use Rattle.prospect.specs.AskedFiles.{AskedFile}
 use Rattle.told_scans.proofs.ScanAsked.{asked_well, of_its_input as of_its_input_here, of_no_asking as of_no_asking_here}
 use Rattle.told_scans.proofs.ScanAskings.{asks_in_order}
 use Rattle.told_scans.proofs.ScanList.{ended_events, later_events, listed_events, listed_globs, listings_are, only_asks}
-use Rattle.told_scans.proofs.ScanOf.{is_whole}
 use Rattle.told_scans.proofs.Scanning.{no_more_listings}
 use Rattle.told_scans.specs.FolderOn.{FolderGoesOn}
 use Rattle.told_scans.specs.OnlyAsked.{IsNoListing}
@@ -93,20 +92,19 @@ module _ {D : Type 0} (start : Began D) (folder : FolderTold) (has : HasScanned 
     moments = (there.0, there.1, there.2, tt);
   }
 
-  pub is_by_one_scan : (moment_there : (before : List ℕ) × (behind : List ℕ) × (so_far.moments ≡ before ++ start.moment ∷ behind)) → IsByOneScan run scan
-  is_by_one_scan there = record {
-    once = refl;
-    only = refl;
+  pub is_by_scans : (moment_there : (before : List ℕ) × (behind : List ℕ) × (so_far.moments ≡ before ++ start.moment ∷ behind)) → IsByScans run
+  is_by_scans there = record {
     scans = are_scans there;
-    asked_well = asked_well told is around on;
-    asks_in_order = asks_in_order told is around on;
+    asked = tt;
+    each = (
+      record {
+        asked_so = each_then (WasAskedWell run scan) (WasAskedSo run scan) scan.askings (λ asking well. inl well) (asked_well told is around on);
+        asks_in_order = asks_in_order told is around on;
+      },
+      tt,
+    );
     own_ids = inputs_have_own_ids start.settings has.in_range;
   }
-
-  pub is_full_scan : IsFullScan run scan
-  is_full_scan =
-      let whole : IsWhole run scan = is_whole told is around on in
-      record { not_cut_off = whole.not_cut_off; none_failed = whole.none_failed; each_asked = whole.each_asked }
 
   -- ---- of no other input
 

@@ -18,7 +18,7 @@ use Rattle.accounts.specs.ToldNotes.{IsKnownNote}
 use Rattle.event_tree.specs.declared.input_rule.InputRule.{InputRule}
 use Rattle.kept_rows.proofs.Images.{found_by_its_key}
 use Rattle.kept_rows.specs.Account.{SlotAccount, slot_at}
-use Rattle.kept_rows.specs.Run.{Run, Scan}
+use Rattle.kept_rows.specs.Run.{Run}
 use Rattle.prospect.specs.declared.listed.Listed.{Listed}
 use Rattle.ship_core.proofs.Prefixes.{no_nearer}
 use Rattle.ship_core.proofs.Members.{given_there, member_within, none_there, passed_there, there_any, there_given, there_passed, first_there}
@@ -52,12 +52,12 @@ none_pass notes [] each = refl
 none_pass notes (slot ∷ slots) each =
     ap (λ (b : Bool). if b then slot ∷ filter (λ s. is_some (row_over s notes)) slots else filter (λ s. is_some (row_over s notes)) slots) each.0 ∙ none_pass notes slots each.1
 
-module _ (run : Run) (scan : Scan) (files : List Filed) (hiddens : List Hidden) (workers : List Taken) (notes : RunNotes) (told : RunTold run scan files hiddens workers notes) where
+module _ (run : Run) (files : List Filed) (hiddens : List Hidden) (workers : List Taken) (notes : RunNotes) (told : RunTold run files hiddens workers notes) where
   abbrev Known : Note → Type 0
   Known = IsKnownNote files hiddens (acknowledged_in workers)
 
   each_known : AllByRecursion Known notes.all
-  each_known = (are_notes run scan files hiddens workers notes told).each
+  each_known = (are_notes run files hiddens workers notes told).each
 
   -- ---- the row of a slot of which the Forget was noted is gone
 
@@ -147,8 +147,8 @@ module _ (run : Run) (scan : Scan) (files : List Filed) (hiddens : List Hidden) 
   module _ (inputs : List InputRule) (listed : List Listed) (files_listed : (file : Filed) → Contains files file → IsListedKey listed (key_in file))
       (of_opening : (hidden : Hidden) → Contains hiddens hidden → IsHiddenOf inputs listed run.opening hidden) (all_forgotten : AreAllForgotten inputs listed run.opening notes.all) where
     -- of a key that is removed, a slot is of its hidden row
-    its_row : (key : List ℕ) (slot : ℕ) → IsRemoved inputs listed key → IsOfFile run scan files hiddens workers notes told key slot ⊎ IsOfRow run scan files hiddens workers notes told key slot →
-        IsOfRow run scan files hiddens workers notes told key slot
+    its_row : (key : List ℕ) (slot : ℕ) → IsRemoved inputs listed key → IsOfFile run files hiddens workers notes told key slot ⊎ IsOfRow run files hiddens workers notes told key slot →
+        IsOfRow run files hiddens workers notes told key slot
     its_row key slot removed (inl of) = absurd (removed.unlisted (subst (IsListedKey listed) of.key_is (files_listed of.file of.among)))
     its_row key slot removed (inr of) = of
 
@@ -162,14 +162,14 @@ module _ (run : Run) (scan : Scan) (files : List Filed) (hiddens : List Hidden) 
         let other = was.hidden in
         let key_same : hidden_key other ≡ hidden_key hidden = ap (λ (r : Row). r.key) was.row_is in
         let its = its_row (hidden_key hidden) (hidden_slot other) of.removed
-        (whose run scan files hiddens workers notes told (hidden_key hidden) (hidden_slot other) (hidden_begin other) (member_is Known notes.all (hidden_begin other) each_known was.begun) (begins_its_key (hidden_key hidden) other key_same)) in
+        (whose run files hiddens workers notes told (hidden_key hidden) (hidden_slot other) (hidden_begin other) (member_is Known notes.all (hidden_begin other) each_known was.begun) (begins_its_key (hidden_key hidden) other key_same)) in
         let same : its.hidden ≡ hidden = same_item hidden_key hiddens its.hidden hidden told.may_go.apart its.there there its.key_is in
         let slots : hidden_slot other ≡ hidden_slot hidden = sym its.slot_is ∙ ap hidden_slot same in
         subst (Contains notes.all) (ap (λ (n : ℕ). Forget (record { 0 = n }) other.row.epoch other.row.offset) slots ∙ ap (λ (r : Row). Forget hidden.slot r.epoch r.offset) was.row_is) was.forgotten
 
     none_stands : (key : List ℕ) → IsRemoved inputs listed key → (slot : ℕ) → Contains (slots_for key notes.all) slot → is_some (row_over slot notes.all) ≡ false
     none_stands key removed slot among =
-        let of = its_row key slot removed (whose_slot run scan files hiddens workers notes told key slot among) in
+        let of = its_row key slot removed (whose_slot run files hiddens workers notes told key slot among) in
         ap (λ (o : Option Row). is_some o) (ap (λ (n : ℕ). row_over n notes.all) (sym of.slot_is) ∙ row_is_gone of.hidden of.there (forget_noted of.hidden of.there))
 
     module _ (rows : List Row) (over : AreRowsOver run.opening notes.all rows) where

@@ -11,7 +11,7 @@ use Rattle.accounts.proofs.Ordered.{none_orderly}
 use Rattle.accounts.proofs.Unscanned.{unscanned_is_accounted_for}
 use Rattle.accounts.specs.AccountedFor.{AccountsFor}
 use Rattle.accounts.specs.FollowedFile.{EachOpeningIsOne}
-use Rattle.accounts.specs.OneScan.{IsByOneScan}
+use Rattle.accounts.specs.ByScans.{IsByScans}
 use Rattle.accounts.specs.Places.{AreOfWorkers}
 use Rattle.accounts.specs.RunTold.{RunNotes, RunTold}
 use Rattle.accounts.specs.Taken.{taken_in}
@@ -231,10 +231,8 @@ module _ {D : Type 0} (disks : DiskWords D) (start : Began D) (folder : FolderTo
   at : AreAt early_run.trace.events began has.lists.more
   at = subst (λ (l : List Event). AreAt l began has.lists.more) (sym events_are) (are_at has.lists.more folder.earlier.events has.asks.more)
 
-  by_one_scan : IsByOneScan early_run early_scan
-  by_one_scan = record {
-    once = refl;
-    only = refl;
+  by_scans : IsByScans early_run
+  by_scans = record {
     scans = record {
       together = append-nil early_scan.listings ∙ listings_are ∙ sym all_listings;
       by_globs = (
@@ -245,8 +243,8 @@ module _ {D : Type 0} (disks : DiskWords D) (start : Began D) (folder : FolderTo
       full = tt;
       moments = (given.among.0, given.among.1, given.among.2, tt);
     };
-    asked_well = tt;
-    asks_in_order = record { each = tt; in_order = tt; made = tt };
+    asked = tt;
+    each = (record { asked_so = tt; asks_in_order = record { each = tt; in_order = tt; made = tt } }, tt);
     own_ids = inputs_have_own_ids start.settings has.in_range;
   }
 
@@ -270,13 +268,13 @@ module _ {D : Type 0} (disks : DiskWords D) (start : Began D) (folder : FolderTo
   abbrev no_notes : RunNotes
   no_notes = record { told = []; collected = []; all = [] }
 
-  early_told : RunTold early_run early_scan [] [] (took_none outcomes) no_notes
+  early_told : RunTold early_run [] [] (took_none outcomes) no_notes
   early_told = record {
-    by = by_one_scan;
-    followed = record { each = tt; slots = tt; keys_apart = tt; openings_apart = tt; openings_serve = no_opening };
+    by = by_scans;
+    followed = record { each = tt; slots = tt; keys_apart = tt; newly_known = tt; openings_apart = tt; openings_serve = no_opening };
     talks = silent_wires outcomes;
-    may_go = record { only = refl; each = tt; apart = tt };
-    behind = record { least = 0; files_below = tt; slots = tt };
+    may_go = record { each = tt; apart = tt };
+    behind = record { least = 0; files_below = tt; slots = tt; other_keys = λ file none. absurd (none_there file none) };
     told = record { each = tt; begun = tt; hidden_begun = tt };
     mixed = record { often = λ h. refl; orderly = none_orderly };
     fits = record {
@@ -292,7 +290,7 @@ module _ {D : Type 0} (disks : DiskWords D) (start : Began D) (folder : FolderTo
   }
 
   early_accounts : AccountsFor early_run [] []
-  early_accounts = (is_accounted_for early_run early_scan [] [] (took_none outcomes) no_notes early_told).accounts
+  early_accounts = (is_accounted_for early_run [] [] (took_none outcomes) no_notes early_told).accounts
 
   module _ (a b : D) (one : OneChoice) (gave : GaveRows disks start) (areas : BeganAtRest disks start → HaveHeldFronts disks start.opening [] start.a start.b a b) where
     abbrev pub early_objects : RunObjects D

@@ -11,8 +11,8 @@ use Rattle.accounts.proofs.Grounded.{each_member, of_map}
 use Rattle.accounts.proofs.Joining.{AreJoined, AreOpenedInSlots, IsJoined, join, joined_in_slots, told_by_its_tail}
 use Rattle.accounts.proofs.Onward.{told_by_other}
 use Rattle.accounts.proofs.Orderly.{member_is, same_item}
-use Rattle.accounts.specs.Filed.{Filed, Opening, first_opening}
-use Rattle.accounts.specs.FollowedFile.{AreFollowedFiles, AreInSlots, AreReopened, EachOpeningIsOne, IsFollowedFile, IsListedAs, moment_by, openings_in, start_in, tail_of}
+use Rattle.accounts.specs.Filed.{Filed, Opening, first_opening, following_of}
+use Rattle.accounts.specs.FollowedFile.{AreFollowedFiles, AreInSlots, AreReopened, EachOpeningIsOne, IsFollowedFile, IsListedAs, WasShownLast, begins_by, moment_by, openings_in, start_in, tail_of}
 use Rattle.accounts.specs.Opened.{Opened}
 use Rattle.accounts.specs.ToldFile.{IsToldFile}
 use Rattle.accounts.specs.Turned.{Turned}
@@ -20,7 +20,7 @@ use Rattle.accounts.specs.Turning.{IsTurnedSo, Pairs}
 use Rattle.accounts.specs.Watch.{Watch}
 use Rattle.accounts.specs.Watched.{watch_in}
 use Rattle.harvester.specs.declared.harvester.Harvester.{Harvester}
-use Rattle.kept_rows.specs.Followed.{OnlyReads, Start as StartBy, asked_openings, start_by}
+use Rattle.kept_rows.specs.Followed.{IsNewlyKnown, OnlyReads, Start as StartBy, asked_openings, start_by}
 use Rattle.kept_rows.specs.Run.{Run, Scan}
 use Rattle.kept_rows.specs.Scans.{AreDistinct, IsFirstPath, moment_in}
 use Rattle.kept_rows.specs.Telling.{opening_moment}
@@ -289,14 +289,25 @@ module _ {T W L D : Type 0} (words : Words T W L D) (start : Began D) (state : R
         (is_first_path the_scan scan_told around_scan stands_around entry key shows.number entry_there as_listed.keyed
         (record { shown = its_entry; path_is = sym of_entry.path_is; shows = (one.begin.input, shows.shows) }))
 
-    is_listed : IsListedAs run scan one its_entry
-    is_listed = record {
+    abbrev shown_last : WasShownLast run one
+    shown_last = record {
+      front = [];
+      scan = scan;
+      behind = [];
+      scans_are = refl;
+      made_before = is_before the_scan scan_told around_scan stands_around one.opening behind;
+      none_nearer = tt;
       number = shows.number;
+      shown = its_entry;
       shows = shows.shows;
       path_is = sym of_entry.path_is ∙ sym path_is;
       first = first;
-      before = is_before the_scan scan_told around_scan stands_around one.opening behind;
-      starts = starts;
+    }
+
+    abbrev is_listed : IsListedAs run file
+    is_listed = record {
+      last = shown_last;
+      begins = inl (record { number_is = is_joined.known_is; starts = starts ∙ ap (λ (n : ℕ). begins_by n (find key start.opening) its_entry.entry.size) (sym is_joined.known_is) });
     }
 
     -- the moment of its listing
@@ -313,7 +324,7 @@ module _ {T W L D : Type 0} (words : Words T W L D) (start : Began D) (state : R
     pub moment_noted_is : file.changed ≡ moment_by run file its_entry
     moment_noted_is = moment_is ∙ changed_by_entry
 
-    pub is_followed : IsFollowedFile run scan file
+    pub is_followed : IsFollowedFile run file
     is_followed = record {
       rule_is = rule_is;
       gave = keyed;
@@ -327,9 +338,8 @@ module _ {T W L D : Type 0} (words : Words T W L D) (start : Began D) (state : R
       };
       told = told_by_other watch (watch_in run) one so_far.moments file.turned (Some (tail_of file)) refl (λ name renamed. absurd renamed) (λ may. inl refl)
           (told_by_its_tail watch so_far.moments file its_tail.tail looks_are its_tail.told);
-      shown = its_entry;
       listed = is_listed;
-      moment = inr moment_noted_is;
+      moment = inr (inl moment_noted_is);
       reopened = subst (AreReopened run file.opened (first_opening file) file.turned.history) (sym is_joined.alone) tt;
     }
 
@@ -377,12 +387,18 @@ module _ {T W L D : Type 0} (words : Words T W L D) (start : Began D) (state : R
       (distinct_both (openings_asked folder.asked) (openings_of so_far.opened) (openings_distinct start.settings.inputs folder.asked folder.listed folder.scanned has.asks) done.apart
       none_in_both))
 
-  pub are_followed_files : AreFollowedFiles run scan files
+  -- and known from the first scan on
+  known_at_once : (some : List Filed) → AllByRecursion (IsJoined looks changed (files_in so_far)) some → AllByRecursion (λ (f : Filed). IsNewlyKnown run [] (following_of f)) some
+  known_at_once [] each = tt
+  known_at_once (f ∷ some) each = (λ later. absurd (let first = each.0.known_is in omega (arith, first, later)), known_at_once some each.1)
+
+  pub are_followed_files : AreFollowedFiles run files
   are_followed_files = record {
-    each = each_member (IsFollowedFile run scan) files is_followed;
+    each = each_member (IsFollowedFile run) files is_followed;
     slots = in_slots;
     keys_apart = keys_apart start.settings start.opening start.listed (files_keys_apart (flat_map keyed_by folder.asked) start.listed start.doubled has.parts) 0 files in_slots
         (each_member (λ (file : Filed). IsOpenedAsListed start.settings start.opening start.listed file.opened) files as_listed);
+    newly_known = known_at_once files joined.each;
     openings_apart = openings_apart;
     openings_serve = each_opening;
   }

@@ -137,7 +137,7 @@ module _ (one : OneChoice) where
 -- ---- such rows are kept
 
 kept_in_image : (row : Row) → IsKept account [] worked.wires row → IsKeptInImage account [] worked.wires row
-kept_in_image row (inl told) = inl told
+kept_in_image row (inl newest) = inl newest.told
 kept_in_image row (inr stands) = inr stands.1
 
 none_are : (Absent : Absences) → AreImageRows worked.run account Absent []
@@ -163,7 +163,7 @@ told_so_far told = by_slot (eqb 0 told.slot) told.slot_is
     by_slot false is = absurd (let q : None ≡ Some told.one = is in cc)
 
 is_stored : IsKept account [] worked.wires worked.row → IsStored account worked.wires worked.row
-is_stored (inl told) = inl (record { told = told; next = told_so_far told })
+is_stored (inl newest) = inl (record { told = newest.told; next = told_so_far newest.told })
 is_stored (inr stands) = inr stands.0
 
 pub rows_are : RowsBy worked.run account Done (worked.row ∷ [])

@@ -18,9 +18,9 @@ use Rattle.run_steps.specs.declared.begin_error.BeginError.{BeginError}
 use Rattle.run_steps.specs.declared.begin_error.BeginError.TheVariants.{NoMemory}
 use Rattle.run_steps.specs.declared.beginning.BegunFiles.{BegunFiles}
 
--- the slot and the row, with the number of an input that cleans it
+-- the slot and the row, with the numbers of an input that cleans it, and of the scan that hides it, the first one
 abbrev pub hidden_as : (inputs : List InputRule) → ℕ → (row : Row) → IsCleaned inputs row.key → Hidden
-hidden_as inputs slot row cleaned = record { slot = record { 0 = slot }; row = row; input = cleaned.0 }
+hidden_as inputs slot row cleaned = record { slot = record { 0 = slot }; row = row; input = cleaned.0; hidden_by = 0 }
 
 module _ (inputs : List InputRule) (listed : List Listed) where
   -- the row goes, and then of the rest

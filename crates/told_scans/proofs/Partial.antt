@@ -5,13 +5,13 @@ use Rattle.std.specs.List.{AllByRecursion}
 use Rattle.std.proofs.lemmas.List.{length-map}
 use Rattle.event_tree.specs.declared.input_rule.IdentityRule.{IdentityRule}
 use Rattle.kept_rows.specs.Run.{Run, Scan}
-use Rattle.kept_rows.specs.Scans.{IsGoodListing, IsWhole, MetNoFault, WasAskedWell, listings_from}
+use Rattle.kept_rows.specs.Scans.{IsGoodListing, IsWhole, MetFault, MetNoFault, WasAskedWell, WasClosedWithFaults, listings_from}
 use Rattle.kept_rows.specs.Trace.{Closing, Trace}
 use Rattle.outside.specs.Folders.{Closed, Event, Listed, ListingFailed, NotThere, Opened, OpeningFailed}
 use Rattle.prospect.proofs.PastFaults.{not_more}
 use Rattle.prospect.specs.PastFaults.{Attempt, Served, StandSo, Unserved, glob_tried, unserved_by}
 use Rattle.told_scans.proofs.Members.{member_is}
-use Rattle.told_scans.specs.Partial.{AreAt, HasFailedAsking, HasFailedListing, IsPartial, WasClosedWithFaults}
+use Rattle.told_scans.specs.Partial.{AreAt, HasFailedAsking, HasFailedListing, IsPartial}
 
 -- ---- its listings
 
@@ -79,7 +79,7 @@ asking_never_whole run scan has whole =
     subst (MetNoFault run.trace was.rule.file_identity has.asking.path) has.opening_is was.well in
     by_case has.failed was.rule.file_identity well
   where
-    by_case : (slice_get run.trace.events has.opening ≡ Some (OpeningFailed has.asking.path)) ⊎ WasClosedWithFaults run.trace has.asking.path has.opening → (rule : IdentityRule) →
+    by_case : MetFault run.trace has.asking.path has.opening → (rule : IdentityRule) →
         MetNoFault run.trace rule has.asking.path (Some has.opening) → ⊥
     by_case (inl failed) rule well = never_opened run.trace has.asking.path has.opening failed rule well
     by_case (inr failed) rule well = never_read run.trace has.asking.path has.opening failed rule well

@@ -1,12 +1,9 @@
 -- A scan of which something failed (Filebeat reference, filestream input; this project's profile): a listing, or the opening or reading of a file
 -- that was asked for its key. It is partial.
-use Rattle.std.specs.Prelude.{◌≡◌, ◌≢◌, ◌⊎◌, ℕ, suc, ◌<◌, List, [], ◌∷◌, flat_map, map, Contains, slice_get, Some}
+use Rattle.std.specs.Prelude.{◌≡◌, ◌≢◌, ◌⊎◌, ℕ, suc, List, [], ◌∷◌, flat_map, map, Contains, slice_get, Some}
 use Rattle.kept_rows.specs.Run.{Asking, Run, Scan}
-use Rattle.kept_rows.specs.Scans.{globs_in, listings_from}
-use Rattle.kept_rows.specs.Trace.{Trace, closing_of}
-use Rattle.outside.specs.Folders.{Event, Opened, OpeningFailed}
-use Rattle.outside.specs.declared.history.Look.{Look}
-use Rattle.outside.specs.declared.history.Sight.{Sight}
+use Rattle.kept_rows.specs.Scans.{MetFault, globs_in, listings_from}
+use Rattle.outside.specs.Folders.{Event}
 use Rattle.prospect.specs.PastFaults.{Attempt, StandSo, glob_tried, unserved_by}
 
 -- each of these stands at its place in a list, from this one on
@@ -26,23 +23,13 @@ pub record HasFailedListing (run : Run) (scan : Scan) : Type 0 where
   pub listings_are : scan.listings ≡ listings_from place events
   pub failed : flat_map unserved_by attempts ≢ []
 
--- the file was opened there by the path, and its tail was closed with faults
-pub record WasClosedWithFaults (trace : Trace) (path : List ℕ) (opening : ℕ) : Type 0 where
-  pub number : ℕ
-  pub begun : Sight
-  pub opened : slice_get trace.events opening ≡ Some (Opened path number begun)
-  pub looks : List Look
-  pub faults : ℕ
-  pub some : 0 < faults
-  pub closing : closing_of trace opening ≡ Some (record { looks = looks; faults = faults })
-
 -- a file was opened to be asked, or to be, and that failed
 pub record HasFailedAsking (run : Run) (scan : Scan) : Type 0 where
   pub asking : Asking
   pub among : Contains scan.askings asking
   pub opening : ℕ
   pub opening_is : asking.opening ≡ Some opening
-  pub failed : (slice_get run.trace.events opening ≡ Some (OpeningFailed asking.path)) ⊎ WasClosedWithFaults run.trace asking.path opening
+  pub failed : MetFault run.trace asking.path opening
 
 abbrev pub IsPartial : Run → Scan → Type 0
 IsPartial run scan = HasFailedListing run scan ⊎ HasFailedAsking run scan
