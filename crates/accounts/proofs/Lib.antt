@@ -39,6 +39,7 @@ pub mod Numbers
 pub mod Often
 pub mod OneSlot
 pub mod Onward
+pub mod OpenedAgain
 pub mod Openings
 pub mod Ordered
 pub mod Orderly

@@ -32,11 +32,11 @@ goes_on_from epoch place size next base is = by_case (nat_le place size) is
 -- ---- the epochs of two histories
 
 -- these behind an epoch that was told so far
-abbrev behind_tellings : Telling → List Telling → List Telling
+abbrev pub behind_tellings : Telling → List Telling → List Telling
 behind_tellings present [] = present ∷ []
 behind_tellings present (first ∷ later) = if first.epoch == present.epoch then told_on present first ∷ later else present ∷ first ∷ later
 
-tellings_behind : (past : List Telling) (present : Telling) (next : History) (earlier : List Telling) →
+pub tellings_behind : (past : List Telling) (present : Telling) (next : History) (earlier : List Telling) →
     tellings_in (epochs_behind past present next earlier) ≡ past ++ behind_tellings present (earlier ++ next.present ∷ [])
 tellings_behind past present next [] = by_case (next.present.epoch == present.epoch)
   where

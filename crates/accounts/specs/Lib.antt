@@ -9,6 +9,7 @@ pub mod Hidden
 pub mod Numbers
 pub mod Once
 pub mod Opened
+pub mod OpenedAgain
 pub mod Parted
 pub mod Places
 pub mod RunDone
