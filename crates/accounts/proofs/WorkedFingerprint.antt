@@ -106,7 +106,7 @@ shows_to = record {
   rule = input;
   rule_is = refl;
   covered = worked.is_covered;
-  gave = record { looks = asked; file = worked.file; tail = asked_tail; file_is = refl; asking = is_asking; gave = refl };
+  gave = record { looks = asked; file = worked.file; tail = asked_tail; closed = refl; file_is = refl; asking = is_asking; gave = refl };
 }
 
 only_entry : (other : Shown) → ShowsEntry trace scan other → worked.shown ≡ other

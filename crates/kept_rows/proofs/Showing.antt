@@ -164,6 +164,7 @@ gave_stays before now rule shown (Some opening) key number on (reads, inl asked)
         opened = event_stays before now opening (Opened shown.entry.path number gave.tail.begun) on gave.tail.opened;
         tells = still.tail.tells ∙ ap Some (sym same);
       };
+      closed = closed_stays before now opening (record { looks = gave.looks; faults = 0 }) on gave.closed;
       file_is = ap (λ (l : List File). slice_get l number) on.same_files ∙ gave.file_is;
       asking = gave.asking;
       gave = gave.gave;
@@ -190,6 +191,7 @@ gave_was before now rule shown (Some opening) key number on (reads, inl asked) g
       looks = asked.looks;
       file = gave.file;
       tail = subst (λ (n : ℕ). IsTail before opening shown.entry.path n asked.looks) (sym number_is) asked.tail;
+      closed = asked.closed;
       file_is = sym (ap (λ (l : List File). slice_get l number) on.same_files) ∙ gave.file_is;
       asking = asked.asking;
       gave = gave.gave ∙ ap (λ (l : List Look). given_key rule.id rule.file_identity shown.entry.path gave.file l) same;

@@ -104,11 +104,12 @@ IsNoFingerprint (Fingerprint offset count) = ⊥
 IsNoFingerprint Native = Unit {0}
 IsNoFingerprint Path = Unit {0}
 
--- the tail that was opened gave this key, or none, of the file of this number
+-- the tail that was opened gave this key, or none, of the file of this number; one that met a fault gives neither
 pub record GaveByTail (trace : Trace) (rule : InputRule) (path : List ℕ) (opening : ℕ) (key : Option (List ℕ)) (number : ℕ) : Type 0 where
   pub looks : List Look
   pub file : File
   pub tail : IsTail trace opening path number looks
+  pub closed : closing_of trace opening ≡ Some (record { looks = looks; faults = 0 })
   pub file_is : slice_get trace.files number ≡ Some file
   pub asking : IsAsking rule.file_identity looks
   pub gave : key ≡ given_key rule.id rule.file_identity path file looks

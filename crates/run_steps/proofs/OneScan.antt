@@ -1,8 +1,7 @@
 -- A run that reads its files once is a run around its one scan: all listings are the scan's, and each opening that was made for a key is of one input.
-use Rattle.std.proofs.Common.{◌≡◌, ◌≤◌, inl, ℕ, true, List, [], ◌∷◌, ◌++◌, Contains, drop, length, append-nil, Some, refl, sym, ap, ◌∙◌, arith}
+use Rattle.std.proofs.Common.{◌≡◌, ◌≤◌, ℕ, true, List, [], ◌∷◌, ◌++◌, Contains, drop, length, map, append-nil, Some, refl, sym, ap, ◌∙◌, arith}
 use Rattle.std.proofs.Math.Seq.{drop-append_seam}
 use Rattle.std.specs.List.{AllByRecursion}
-use Rattle.accounts.proofs.Lists.{each_then}
 use Rattle.accounts.specs.ByScans.{IsByScans}
 use Rattle.kept_rows.proofs.Showing.{both}
 use Rattle.kept_rows.specs.Drained.{IsOfNoOther}
@@ -11,13 +10,15 @@ use Rattle.kept_rows.specs.Scans.{AreScans, WasAskedSo, WasAskedWell, listings_f
 use Rattle.kept_rows.specs.Trace.{WireTold}
 use Rattle.outside.specs.Folders.{Event, FolderHistory}
 use Rattle.prospect.specs.AskedFiles.{AskedFile}
-use Rattle.told_scans.proofs.ScanAsked.{asked_well, of_its_input as of_its_input_here, of_no_asking as of_no_asking_here}
+use Rattle.told_scans.proofs.ScanAsked.{asked_so, of_its_input as of_its_input_here, of_no_asking as of_no_asking_here}
 use Rattle.told_scans.proofs.ScanAskings.{asks_in_order}
 use Rattle.told_scans.proofs.ScanList.{ended_events, later_events, listed_events, listed_globs, listings_are, only_asks}
 use Rattle.told_scans.proofs.Scanning.{no_more_listings}
 use Rattle.told_scans.specs.FolderOn.{FolderGoesOn}
 use Rattle.told_scans.specs.OnlyAsked.{IsNoListing}
-use Rattle.told_scans.specs.ToldScan.{IsAround, IsTold, RunAround, ToldScan, opening_by}
+use Rattle.told_scans.specs.ToldScan.{IsAround, IsTold, IsToldWithoutFault, RunAround, ToldScan, opening_by}
+use Rattle.told_scans.proofs.WholeScans.{answered_whole, answers_are, asks_so, files_answered, globs_served, listed_served, served_are, served_whole}
+use Rattle.prospect.specs.PastFaults.{Answered, Served}
 use Rattle.run_steps.specs.Began.{Began}
 use Rattle.run_steps.specs.RunOf.{FolderTold, run_of, scan_of, told_scan}
 use Rattle.run_steps.specs.Scanned.{HasScanned}
@@ -31,7 +32,29 @@ goes_on_doing now later so_far done = record { files = done.files; more = done.m
 -- ---- the scan, and the run around it
 
 abbrev pub told_so : {D : Type 0} (start : Began D) (folder : FolderTold) → HasScanned start folder → IsTold (told_scan start folder)
-told_so start folder has = record { all = has.all; scans = has.scans; keyed = has.keyed; asked_are = has.asked_are; asks = has.asks; parts = has.parts }
+told_so start folder has = record {
+  attempts = map Served has.scans.listings;
+  for_each_glob = globs_served has.scans.listings ∙ has.scans.listed_is.one_for_each_glob;
+  listed_is = listed_served start.settings.inputs folder.earlier has.all folder.listed has.scans;
+  listings = has.scans.listings;
+  served = served_are has.scans.listings;
+  all = has.all;
+  shown = has.scans.shown;
+  keyed = has.keyed;
+  trials = map Answered folder.asked;
+  tried_are = files_answered folder.asked ∙ has.asked_are;
+  answered = answers_are folder.asked;
+  asks = asks_so start.settings.inputs folder.asked folder.listed folder.scanned has.asks;
+  parts = has.parts;
+}
+
+-- it ends with the first fault
+abbrev pub told_without_fault : {D : Type 0} (start : Began D) (folder : FolderTold) → HasScanned start folder → IsToldWithoutFault (told_scan start folder)
+told_without_fault start folder has = record {
+  is = told_so start folder has;
+  none_failed = served_whole has.scans.listings;
+  none_faulted = answered_whole folder.asked;
+}
 
 abbrev pub around_one : {D : Type 0} (start : Began D) (folder : FolderTold) (moments : List ℕ) (wires : List WireTold) → RunAround
 around_one start folder moments wires = record {
@@ -96,13 +119,7 @@ module _ {D : Type 0} (start : Began D) (folder : FolderTold) (has : HasScanned 
   is_by_scans there = record {
     scans = are_scans there;
     asked = tt;
-    each = (
-      record {
-        asked_so = each_then (WasAskedWell run scan) (WasAskedSo run scan) scan.askings (λ asking well. inl well) (asked_well told is around on);
-        asks_in_order = asks_in_order told is around on;
-      },
-      tt,
-    );
+    each = (record { asked_so = asked_so told is around on; asks_in_order = asks_in_order told is around on }, tt);
     own_ids = inputs_have_own_ids start.settings has.in_range;
   }
 

@@ -53,14 +53,14 @@ use Rattle.told_scans.specs.OnlyAsked.{WasClosedWith, WasOnlyAsked}
 use Rattle.run_steps.specs.Shown.{HasDone, HasShown, WasOpenedSince, openings_of}
 use Rattle.run_steps.specs.SoFar.{Left, SoFar, files_in, files_of}
 use Rattle.run_steps.specs.Stands.{AreTurnedIn, IsLeftSo, Stands, watch_of}
-use Rattle.told_scans.proofs.AskedEvents.{distinct_both, openings_asked, openings_distinct}
+use Rattle.told_scans.proofs.TriedAskings.{distinct_both, openings_asked}
 use Rattle.told_scans.proofs.Members.{each_of}
 use Rattle.prospect.proofs.Doubled.{keys_apart as files_keys_apart}
 use Rattle.prospect.specs.AskedFiles.{keyed_by}
 use Rattle.run_steps.proofs.Named.{keys_apart}
 use Rattle.told_scans.proofs.FirstPaths.{is_first_path}
 use Rattle.told_scans.proofs.ScanAsked.{in_this_run}
-use Rattle.told_scans.proofs.ScanList.{IsOfEntry, asked_within, behind_listings, entry_of, is_before, placed_in_scan, since_listed}
+use Rattle.told_scans.proofs.ScanList.{IsOfEntry, asked_apart, asked_within, behind_listings, entry_of, is_before, placed_in_scan, since_listed}
 use Rattle.told_scans.proofs.ScanOf.{ShowsSome, shows_file}
 use Rattle.run_steps.proofs.OneScan.{around_one, is_around, told_so}
 use Rattle.told_scans.specs.ToldScan.{IsAround, IsTold, RunAround, ToldScan}
@@ -384,7 +384,7 @@ module _ {T W L D : Type 0} (words : Words T W L D) (start : Began D) (state : R
   openings_apart : AreDistinct (asked_openings run ++ flat_map openings_in files)
   openings_apart = subst (λ (l : List ℕ). AreDistinct (l ++ flat_map openings_in files)) (sym (append-nil (openings_asked folder.asked)))
       (subst (λ (l : List ℕ). AreDistinct (openings_asked folder.asked ++ l)) (sym openings_are)
-      (distinct_both (openings_asked folder.asked) (openings_of so_far.opened) (openings_distinct start.settings.inputs folder.asked folder.listed folder.scanned has.asks) done.apart
+      (distinct_both (openings_asked folder.asked) (openings_of so_far.opened) (asked_apart the_scan scan_told around_scan stands_around) done.apart
       none_in_both))
 
   -- and known from the first scan on

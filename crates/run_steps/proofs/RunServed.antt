@@ -61,6 +61,7 @@ use Rattle.run_steps.proofs.RunNotes.{begin_opened, opened_is_in_notes}
 use Rattle.told_scans.proofs.ScanAsked.{asks_for, in_this_run}
 use Rattle.run_steps.proofs.OneScan.{around_one, is_around, of_its_input, of_no_asking, told_so}
 use Rattle.told_scans.proofs.ScanList.{answered, entry_of, everyone, in_parts, is_before, shows_entry, since_listed}
+use Rattle.told_scans.proofs.WholeScans.{answered_whole}
 use Rattle.told_scans.proofs.ScanOf.{IsListedFor, ShowsSome, answer_by, gave_there, is_listed_for, key_is_told, rule_of, shows_asked, shows_file}
 use Rattle.accounts.proofs.Orderly.{member_is}
 
@@ -142,7 +143,7 @@ module _ {T W L D : Type 0} (words : Words T W L D) (start : Began D) (state : R
   module _ (shown_entry : Shown) (input : ℕ) (rule : InputRule) (entry : ShowsEntry run.trace scan shown_entry) (rule_is : slice_get start.settings.inputs input ≡ Some rule)
       (covered : IsCovered rule.paths shown_entry.entry.path) where
     of : IsListedFor the_scan scan_told around_scan stands_around shown_entry input rule
-    of = is_listed_for the_scan scan_told around_scan stands_around shown_entry input rule entry rule_is covered
+    of = is_listed_for the_scan scan_told around_scan stands_around (answered_whole folder.asked) shown_entry input rule entry rule_is covered
 
     answer : AnswerStands rule of.of.listed of.of.answer folder.ended
     answer = answer_by the_scan scan_told around_scan stands_around of.of of.among shown_entry input rule entry of.input_is of.path_is rule_is

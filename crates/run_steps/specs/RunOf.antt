@@ -8,7 +8,7 @@ use Rattle.outside.specs.Folders.{FolderHistory}
 use Rattle.outside.specs.Wires.{Outcome}
 use Rattle.prospect.specs.AskedFiles.{AskedFile}
 use Rattle.rounds.specs.Words.{WireWords}
-use Rattle.told_scans.specs.ToldScan.{ToldScan, scan_by}
+use Rattle.told_scans.specs.ToldScan.{ToldScan, asking_of, scan_by}
 use Rattle.run_steps.specs.Began.{Began}
 
 -- what the folder told as the run began, behind its listings, behind its scan and at its end; and what asking the listed files for
@@ -30,6 +30,7 @@ told_scan start folder = record {
   earlier = folder.earlier;
   listed = folder.listed;
   scanned = folder.scanned;
+  askings = map asking_of folder.asked;
   asked = folder.asked;
   files = start.listed;
   doubled = start.doubled;

@@ -20,7 +20,8 @@ use Rattle.outside.specs.Files.{File}
 use Rattle.outside.specs.Folders.{Closed, Event, FolderHistory, NotThere, Opened, OpeningFailed}
 use Rattle.outside.specs.declared.history.Look.{Look}
 use Rattle.outside.specs.declared.history.Sight.{Sight}
-use Rattle.prospect.specs.AskedFiles.{Answer, AnswersSo, AskedFile, AsksFrom, AsksOne, AsksSome, ByName, CutsOff, Gave, IsCutOff, NotFound, TooFew, WasAsked}
+use Rattle.prospect.specs.AskedFiles.{Answer, AnswersSo, AskedFile, AsksFrom, AsksOne, AsksSome, ByName, CutsOff, FailsSo, Gave, IsCutOff, NotFound, TooFew, WasAsked}
+use Rattle.prospect.specs.PastFaults.{Answered, Faulted, FaultsOne, TriesOne, Trial, answered_in}
 use Rattle.prospect.specs.Scan.{with_events}
 use Rattle.prospect.specs.declared.listed.Listed.{Listed}
 use Rattle.ship_core.proofs.Members.{first_there, given_there, later_there, none_there, there_cases, there_given}
@@ -28,7 +29,7 @@ use Rattle.told_scans.specs.FolderOn.{FolderGoesOn}
 use Rattle.told_scans.specs.OnlyAsked.{HasOnlyAsked, IsNoListing, WasOnlyAsked}
 use Rattle.told_scans.proofs.Events.{closing_both, got_at_end}
 use Rattle.told_scans.proofs.Members.{asking_reads, each_then, mapped_there, member_is, of_map}
-use Rattle.told_scans.specs.ToldScan.{asking_of, opening_by}
+use Rattle.told_scans.specs.ToldScan.{AsksSo, asking_at, asking_of, opening_by}
 
 -- ---- places in lists
 
@@ -79,7 +80,7 @@ module _ (now later : FolderHistory) (on : FolderGoesOn now later) where
       ⊎_elim (λ here. here) (λ behind. absurd (let at = behind.1 in omega (arith, at, within)))
       (got_cases now.events on.more place event (sym (ap (λ (l : List Event). slice_get l place) on.events) ∙ is))
 
-  closing_stays : (opening : ℕ) (closing : Closing) → opening < length now.events → closing_in opening (drop (suc opening) now.events) ≡ Some closing →
+  pub closing_stays : (opening : ℕ) (closing : Closing) → opening < length now.events → closing_in opening (drop (suc opening) now.events) ≡ Some closing →
       closing_in opening (drop (suc opening) later.events) ≡ Some closing
   closing_stays opening closing within is =
       ap (λ (l : List Event). closing_in opening (drop (suc opening) l)) on.events ∙ stays_behind opening now.events on.more closing within is
@@ -147,7 +148,7 @@ module _ (told : FolderHistory) (path : List ℕ) (number : ℕ) (begun : Sight)
   abbrev then_told : FolderHistory
   then_told = with_events told both_events
 
-  closed_there : closing_in (length told.events) (drop (suc (length told.events)) then_told.events) ≡ Some (record { looks = looks; faults = faults })
+  pub closed_there : closing_in (length told.events) (drop (suc (length told.events)) then_told.events) ≡ Some (record { looks = looks; faults = faults })
   closed_there = ap (closing_in (length told.events)) (behind_seam told.events (Opened path number begun) (Closed (length told.events) looks faults ∷ []))
       ∙ closes_here (length told.events) looks faults []
 
@@ -206,7 +207,7 @@ pub record IsAnsweredIn (inputs : List InputRule) (since : ℕ) (told : FolderHi
   pub stands : AnswerStands rule asked.listed asked.answer told
   pub placed : IsOpenedIn since told asked.answer
 
-same_opening : (first second : ℕ) → Some first ≡ Some second → first ≡ second
+pub same_opening : (first second : ℕ) → Some first ≡ Some second → first ≡ second
 same_opening first second is = cc
 
 -- ---- and stays there
@@ -314,7 +315,7 @@ module _ (inputs : List InputRule) where
   one_asked : (asked : AskedFile) (before after : FolderHistory) → AsksOne inputs asked before after → HasOnlyAsked before after
   one_asked asked before after asks = only_answered asks.rule asked.listed before asked.answer after asks.answered
 
-  one_answered : (asked : AskedFile) (before after : FolderHistory) → AsksOne inputs asked before after → IsAnsweredIn inputs (length before.events) after asked
+  pub one_answered : (asked : AskedFile) (before after : FolderHistory) → AsksOne inputs asked before after → IsAnsweredIn inputs (length before.events) after asked
   one_answered asked before after asks = record {
     rule = asks.rule;
     rule_is = asks.rule_is;
@@ -326,103 +327,66 @@ module _ (inputs : List InputRule) where
   all_asked [] before after asks = subst (HasOnlyAsked before) (sym asks) (asked_none before)
   all_asked (one ∷ asked) before after asks = then_asked before asks.0 after (one_asked one before asks.0 asks.1) (all_asked asked asks.0 after asks.2)
 
-  pub each_answered : (asked : List AskedFile) (before after : FolderHistory) → AsksFrom inputs asked before after → AllByRecursion (IsAnsweredIn inputs (length before.events) after) asked
-  each_answered [] before after asks = tt
-  each_answered (one ∷ asked) before after asks =
-      let mid = asks.0 in
-      let first = goes_on_asking before mid (one_asked one before mid asks.1) in
-      let rest = goes_on_asking mid after (all_asked asked mid after asks.2) in
-      let same : FolderGoesOn after after = goes_on_asking after after (asked_none after) in (
-        answered_still inputs (length before.events) (length before.events) mid after one (omega arith) rest (one_answered one before mid asks.1),
-        each_then (IsAnsweredIn inputs (length mid.events) after) (IsAnsweredIn inputs (length before.events) after) asked
-            (λ other answered. answered_still inputs (length before.events) (length mid.events) after after other (longer before mid first) same answered)
-            (each_answered asked mid after asks.2),
-      )
-
--- ---- their openings
-
-abbrev pub openings_asked : List AskedFile → List ℕ
-openings_asked asked = filter_map (λ (asking : Asking). asking.opening) (map asking_of asked)
-
--- the file whose asking was made at this opening
-pub record IsAskedAt (asked : List AskedFile) (opening : ℕ) : Type 0 where
-  pub one : AskedFile
-  pub among : Contains asked one
-  pub at : opening_by one.answer ≡ Some opening
-
-pub asked_at : (asked : List AskedFile) (opening : ℕ) → Contains (openings_asked asked) opening → IsAskedAt asked opening
-asked_at asked opening there =
-    let given = there_given (λ (asking : Asking). asking.opening) (map asking_of asked) opening there in
-    let of = of_map asking_of asked given.0 given.1 in
-    record { one = of.item; among = of.among; at = ap (λ (asking : Asking). asking.opening) of.is ∙ given.2 }
-
-opening_there : (asked : List AskedFile) (one : AskedFile) (opening : ℕ) → Contains asked one → opening_by one.answer ≡ Some opening → Contains (openings_asked asked) opening
-opening_there asked one opening there at =
-    given_there (λ (asking : Asking). asking.opening) (map asking_of asked) (asking_of one) opening (mapped_there asking_of asked one there) at
-
-abbrev PlacedIn : ℕ → FolderHistory → AskedFile → Type 0
-PlacedIn since told asked = IsOpenedIn since told asked.answer
-
-openings_within : (since : ℕ) (told : FolderHistory) (asked : List AskedFile) → AllByRecursion (PlacedIn since told) asked → (opening : ℕ) → Contains (openings_asked asked) opening →
-    (since ≤ opening) × (opening < length told.events)
-openings_within since told asked each opening there = let of = asked_at asked opening there in member_is (PlacedIn since told) asked of.one each of.among opening of.at
-
--- distinct numbers of two lists that have none in common
-pub distinct_both : (xs ys : List ℕ) → AreDistinct xs → AreDistinct ys → ((x : ℕ) → Contains xs x → Contains ys x → ⊥) → AreDistinct (xs ++ ys)
-distinct_both [] ys first second none = second
-distinct_both (x ∷ xs) ys first second none = (
-  λ there. ⊎_elim first.0 (λ other. none x (first_there x xs) other) (Contains-append_cases xs ys x there),
-  distinct_both xs ys first.1 second (λ y one other. none y (later_there x y xs one) other),
-)
-
-distinct_with : (o : Option ℕ) (xs : List ℕ) → AreDistinct xs → ((x : ℕ) → o ≡ Some x → ¬ (Contains xs x)) → AreDistinct (cons_option o xs)
-distinct_with None xs apart none = apart
-distinct_with (Some x) xs apart none = (none x refl, apart)
-
--- each opening stands behind those before
-pub openings_distinct : (inputs : List InputRule) (asked : List AskedFile) (before after : FolderHistory) → AsksFrom inputs asked before after → AreDistinct (openings_asked asked)
-openings_distinct inputs [] before after asks = tt
-openings_distinct inputs (one ∷ asked) before after asks =
-    distinct_with (opening_by one.answer) (openings_asked asked) (openings_distinct inputs asked asks.0 after asks.2) (λ opening at there. not_later opening at there)
-  where
-    placed : AllByRecursion (PlacedIn (length asks.0.events) after) asked
-    placed = each_then (IsAnsweredIn inputs (length asks.0.events) after) (PlacedIn (length asks.0.events) after) asked (λ other answered. answered.placed)
-        (each_answered inputs asked asks.0 after asks.2)
-
-    not_later : (opening : ℕ) → opening_by one.answer ≡ Some opening → Contains (openings_asked asked) opening → ⊥
-    not_later opening at there =
-        let here = (one_answered inputs one before asks.0 asks.1).placed opening at in
-        let later = openings_within (length asks.0.events) after asked placed opening there in
-        omega (arith, here.1, later.0)
-
--- so one opening is of one file
-pub one_of_opening : (asked : List AskedFile) (one other : AskedFile) (opening : ℕ) → AreDistinct (openings_asked asked) → Contains asked one → Contains asked other →
-    opening_by one.answer ≡ Some opening → opening_by other.answer ≡ Some opening → one ≡ other
-one_of_opening [] one other opening apart there also at same = absurd (none_there one there)
-one_of_opening (first ∷ asked) one other opening apart there also at same =
-    by_case (there_cases first one asked there) (there_cases first other asked also) (λ x y. one_of_opening asked one other opening (others (opening_by first.answer) apart) x y at same)
-  where
-    others : (o : Option ℕ) → AreDistinct (cons_option o (openings_asked asked)) → AreDistinct (openings_asked asked)
-    others None apart = apart
-    others (Some x) apart = apart.1
-
-    not_later : (o : Option ℕ) → o ≡ Some opening → AreDistinct (cons_option o (openings_asked asked)) → Contains (openings_asked asked) opening → ⊥
-    not_later None is apart there = let q : None ≡ Some opening = is in cc
-    not_later (Some x) is apart there = apart.0 (subst (λ (n : ℕ). Contains (openings_asked asked) n) (sym (same_opening x opening is)) there)
-
-    by_case : (first ≡ one) ⊎ Contains asked one → (first ≡ other) ⊎ Contains asked other → (Contains asked one → Contains asked other → one ≡ other) → one ≡ other
-    by_case (inl x) (inl y) later = sym x ∙ y
-    by_case (inl x) (inr y) later = absurd (not_later (opening_by first.answer) (ap (λ (a : AskedFile). opening_by a.answer) x ∙ at) apart (opening_there asked other opening y same))
-    by_case (inr x) (inl y) later = absurd (not_later (opening_by first.answer) (ap (λ (a : AskedFile). opening_by a.answer) y ∙ same) apart (opening_there asked one opening x at))
-    by_case (inr x) (inr y) later = later x y
-
--- ---- asking that was cut off
+-- ---- an asking that failed
 
 cut_only : (path : List ℕ) (before : FolderHistory) (last : List Event) → CutsOff path before last → HasOnlyAsked before (with_events before last)
 cut_only path before last (inl failed) = subst (λ (l : List Event). HasOnlyAsked before (with_events before l)) (sym failed)
     (asked_no_tail before (OpeningFailed path) tt (λ other number begun is. let q : OpeningFailed path ≡ Opened other number begun = is in cc))
 cut_only path before last (inr read) = subst (λ (l : List Event). HasOnlyAsked before (with_events before l)) (sym read.last_is)
     (asked_one_tail before path read.number read.begun read.looks read.faults read.reads)
+
+
+module _ (inputs : List InputRule) where
+  failed_only : (one : Listed) (before after : FolderHistory) → FaultsOne inputs one before after → HasOnlyAsked before after
+  failed_only one before after faults = subst (HasOnlyAsked before) (sym faults.kept) (cut_only one.path before faults.last (by_case faults.fails))
+    where
+      by_case : FailsSo one.path before faults.last → CutsOff one.path before faults.last
+      by_case (inl failed) = inl failed
+      by_case (inr vain) = inr vain.read
+
+  pub one_tried : (trial : Trial) (before after : FolderHistory) → TriesOne inputs trial before after → HasOnlyAsked before after
+  one_tried (Answered asked) before after tries = one_asked inputs asked before after tries
+  one_tried (Faulted one) before after tries = failed_only one before after tries
+
+  pub all_tried : (trials : List Trial) (askings : List Asking) (before after : FolderHistory) → AsksSo inputs trials askings before after → HasOnlyAsked before after
+  all_tried [] [] before after asks = subst (HasOnlyAsked before) (sym asks) (asked_none before)
+  all_tried [] (asking ∷ askings) before after asks = absurd asks
+  all_tried (trial ∷ trials) [] before after asks = absurd asks
+  all_tried (trial ∷ trials) (asking ∷ askings) before after asks =
+      then_asked before asks.0 after (one_tried trial before asks.0 asks.1) (all_tried trials askings asks.0 after asks.3)
+
+  later_answered : (trial : Trial) (before mid after : FolderHistory) → TriesOne inputs trial before mid → FolderGoesOn after after → (asked : List AskedFile) →
+      AllByRecursion (IsAnsweredIn inputs (length mid.events) after) asked → AllByRecursion (IsAnsweredIn inputs (length before.events) after) asked
+  later_answered trial before mid after tries same asked each =
+      each_then (IsAnsweredIn inputs (length mid.events) after) (IsAnsweredIn inputs (length before.events) after) asked
+      (λ other answered. answered_still inputs (length before.events) (length mid.events) after after other
+      (longer before mid (goes_on_asking before mid (one_tried trial before mid tries))) same answered) each
+
+  pub each_answered : (trials : List Trial) (askings : List Asking) (before after : FolderHistory) → AsksSo inputs trials askings before after →
+      AllByRecursion (IsAnsweredIn inputs (length before.events) after) (answered_in trials)
+  each_answered [] [] before after asks = tt
+  each_answered [] (asking ∷ askings) before after asks = absurd asks
+  each_answered (trial ∷ trials) [] before after asks = absurd asks
+  each_answered (trial ∷ trials) (asking ∷ askings) before after asks = by_trial trial asks.1 (each_answered trials askings asks.0 after asks.3)
+    where
+      mid : FolderHistory
+      mid = asks.0
+
+      rest : FolderGoesOn mid after
+      rest = goes_on_asking mid after (all_tried trials askings mid after asks.3)
+
+      same : FolderGoesOn after after
+      same = goes_on_asking after after (asked_none after)
+
+      by_trial : (trial : Trial) → TriesOne inputs trial before mid → AllByRecursion (IsAnsweredIn inputs (length mid.events) after) (answered_in trials) →
+          AllByRecursion (IsAnsweredIn inputs (length before.events) after) (answered_in (trial ∷ trials))
+      by_trial (Answered one) tries later = (
+        answered_still inputs (length before.events) (length before.events) mid after one (omega arith) rest (one_answered inputs one before mid tries),
+        later_answered (Answered one) before mid after tries same (answered_in trials) later,
+      )
+      by_trial (Faulted one) tries later = later_answered (Faulted one) before mid after tries same (answered_in trials) later
+
+-- ---- asking that was cut off
 
 ended_only : (inputs : List InputRule) (others : List Listed) (before : FolderHistory) (last : List Event) → IsCutOff inputs others before last → HasOnlyAsked before (with_events before last)
 ended_only inputs others before last (inl none) = subst (λ (l : List Event). HasOnlyAsked before (with_events before l)) (sym none)

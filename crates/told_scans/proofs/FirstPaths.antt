@@ -18,7 +18,7 @@ use Rattle.wire_base.specs.KeyOrder.{compare}
 use Rattle.told_scans.proofs.AskedEvents.{AnswerStands}
 use Rattle.told_scans.proofs.KeyedFiles.{IsSorted, IsSortedBy, keyed_apart, keyed_in_order}
 use Rattle.told_scans.proofs.ScanAskings.{no_name}
-use Rattle.told_scans.proofs.ScanList.{answered, everyone, in_keyed, keyed_files, shown_of}
+use Rattle.told_scans.proofs.ScanList.{answered, asked_in_order, asked_named_apart, everyone, in_keyed, keyed_files, shown_of}
 use Rattle.told_scans.proofs.ScanOf.{HasTheKey, shown_is_listed}
 use Rattle.told_scans.proofs.Members.{each_member, some_is}
 use Rattle.told_scans.specs.ToldScan.{IsAround, IsTold, RunAround, ToldScan, run_around, scan_by}
@@ -49,7 +49,7 @@ module _ (told : ToldScan) (has : IsTold told) (around : RunAround) (on : IsArou
   before_all (one ∷ some) in_order = (in_order.0, before_all some in_order.1)
 
   in_order : AreInOrder all_keyed
-  in_order = keyed_in_order told.asked (subst AreInOrder (sym has.asked_are) has.scans.shown.in_order)
+  in_order = keyed_in_order told.asked (asked_in_order told has around on)
 
   -- no listed file with the key of one that is followed has a path before it
   pub none_before : (first other : Listed) (key : List ℕ) → Contains told.files first → Contains each other → first.key ≡ Some key → other.key ≡ Some key → compare other.path first.path ≢ Less
@@ -88,4 +88,4 @@ module _ (told : ToldScan) (has : IsTold told) (around : RunAround) (on : IsArou
       by_answer rule (NotFound opening) stands none = stands.by_bytes
 
   pub apart : AreApart all_keyed
-  apart = keyed_apart inputs told.asked (each_member (IsSorted inputs) told.asked sorted) (subst AreApart (sym has.asked_are) has.scans.shown.apart)
+  apart = keyed_apart inputs told.asked (each_member (IsSorted inputs) told.asked sorted) (asked_named_apart told has around on)

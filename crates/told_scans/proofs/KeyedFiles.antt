@@ -9,12 +9,41 @@ use Rattle.event_tree.specs.declared.input_rule.InputRule.{InputRule}
 use Rattle.file_identity.specs.Answers.{IsFingerprint}
 use Rattle.prospect.specs.AskedFiles.{Answer, AskedFile, ByName, Gave, NotFound, TooFew, keyed_as, keyed_by, with_key}
 use Rattle.prospect.specs.ListedFiles.{AreApart, AreInOrder, HasFile, Name, Place, name_of, place_of, place_order}
+use Rattle.prospect.specs.PastFaults.{Answered, Faulted, Trial, answered_in, file_tried}
 use Rattle.prospect.specs.declared.listed.Listed.{Listed}
 use Rattle.ship_core.proofs.Members.{first_there, later_there, none_there, there_cases}
 use Rattle.told_scans.proofs.Members.{each_member, mapped_there, member_is, some_is}
 
 abbrev pub listed_of : AskedFile → Listed
 listed_of asked = asked.listed
+
+-- ---- those that answered among those that were tried
+
+each_answered : (P : Listed → Type 0) (trials : List Trial) → AllByRecursion P (map file_tried trials) → AllByRecursion P (map listed_of (answered_in trials))
+each_answered P [] each = tt
+each_answered P (Answered one ∷ trials) each = (each.0, each_answered P trials each.1)
+each_answered P (Faulted one ∷ trials) each = each_answered P trials each.1
+
+pub in_order_answered : (trials : List Trial) → AreInOrder (map file_tried trials) → AreInOrder (map listed_of (answered_in trials))
+in_order_answered [] in_order = tt
+in_order_answered (Answered one ∷ trials) in_order =
+    (each_answered (λ (later : Listed). place_order (place_of later) (place_of one.listed) ≢ Less) trials in_order.0, in_order_answered trials in_order.1)
+in_order_answered (Faulted one ∷ trials) in_order = in_order_answered trials in_order.1
+
+answered_was_tried : (trials : List Trial) (one : Listed) → Contains (map listed_of (answered_in trials)) one → Contains (map file_tried trials) one
+answered_was_tried [] one there = absurd (none_there one there)
+answered_was_tried (Answered first ∷ trials) one there =
+    ⊎_elim (λ here. subst (λ (l : Listed). Contains (first.listed ∷ map file_tried trials) l) here (first_there first.listed (map file_tried trials)))
+    (λ later. later_there first.listed one (map file_tried trials) (answered_was_tried trials one later)) (there_cases first.listed one (map listed_of (answered_in trials)) there)
+answered_was_tried (Faulted first ∷ trials) one there = later_there first one (map file_tried trials) (answered_was_tried trials one there)
+
+pub apart_answered : (trials : List Trial) → AreApart (map file_tried trials) → AreApart (map listed_of (answered_in trials))
+apart_answered [] apart = tt
+apart_answered (Answered one ∷ trials) apart = (
+  λ has. let there = answered_was_tried trials has.1 (has.0, has.2, has.3) in apart.0 (there.0, has.1, there.1, there.2, has.4),
+  apart_answered trials apart.1,
+)
+apart_answered (Faulted one ∷ trials) apart = apart_answered trials apart.1
 
 -- ---- of which asked file a keyed one is
 

@@ -5,8 +5,12 @@ pub mod KeyedFiles
 pub mod Members
 pub mod NamesApart
 pub mod Partial
+pub mod PastFaults
 pub mod ScanAsked
 pub mod ScanAskings
 pub mod ScanList
 pub mod ScanOf
+pub mod ScanWhole
 pub mod Scanning
+pub mod TriedAskings
+pub mod WholeScans

@@ -56,7 +56,7 @@ listing_never_whole run scan has whole =
 
 -- ---- its askings
 
-abbrev faults_of : Option Closing → ℕ
+abbrev pub faults_of : Option Closing → ℕ
 faults_of None = 0
 faults_of (Some closing) = closing.faults
 

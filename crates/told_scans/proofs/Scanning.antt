@@ -1,8 +1,9 @@
--- The listings of a scan stand one behind the other in the folder's list, one for each glob, and show just what was listed.
+-- The listings of a scan stand one behind the other in the folder's list, one for each glob, those that failed with them, and the served ones show just
+-- what was listed.
 use Rattle.std.proofs.Common.{◌≡◌, ◌⊎◌, inl, inr, ⊎_elim, ℕ, suc, ◌+◌, ◌≤◌, ◌<◌, List, [], ◌∷◌, ◌++◌, Contains, length, map, append_assoc, length-append, Some, refl, sym, ap, subst, ◌∙◌, arith}
 use Rattle.std.proofs.Math.Nat.{eq-or-lt_of_le}
 use Rattle.std.proofs.lemmas.List.Elements.{Contains-append_cases, Contains-append_left, Contains-append_right}
-use Rattle.std.specs.Prelude.{slice_get}
+use Rattle.std.specs.Prelude.{flat_map, slice_get}
 use Rattle.std.specs.List.{AllByRecursion}
 use Rattle.kept_rows.specs.Scans.{IsGoodListing, ListGlobs, listings_from}
 use Rattle.kept_rows.specs.Trace.{Trace}
@@ -10,9 +11,10 @@ use Rattle.outside.specs.Folders.{Closed, Event, Listed, ListingFailed, NotThere
 use Rattle.outside.specs.declared.history.Shown.{Shown}
 use Rattle.outside.specs.declared.history.Sight.{Sight}
 use Rattle.prospect.specs.ListedFiles.{shown_in}
-use Rattle.prospect.specs.Scan.{Listing, event_of}
+use Rattle.prospect.specs.PastFaults.{Attempt, Served, Unserved, glob_tried, served_in, unserved_by}
 use Rattle.ship_core.proofs.Members.{first_there, later_there, none_there, there_cases}
 use Rattle.told_scans.specs.OnlyAsked.{IsNoListing}
+use Rattle.told_scans.specs.ToldScan.{event_tried}
 use Rattle.told_scans.proofs.Events.{got_at_end}
 use Rattle.told_scans.specs.Partial.{AreAt}
 
@@ -49,41 +51,47 @@ no_more_listings (NotThere path ∷ events) more place none = no_more_listings e
 no_more_listings (OpeningFailed path ∷ events) more place none = no_more_listings events more (suc place) none
 no_more_listings (Closed opening looks faults ∷ events) more place none = no_more_listings events more (suc place) none
 
-pub as_many_listings : (listings : List Listing) (place : ℕ) → length (listings_from place (map event_of listings)) ≡ length listings
+pub as_many_listings : (attempts : List Attempt) (place : ℕ) → length (listings_from place (map event_tried attempts)) ≡ length attempts
 as_many_listings [] place = refl
-as_many_listings (listing ∷ listings) place = ap suc (as_many_listings listings (suc place))
+as_many_listings (Served listing ∷ attempts) place = ap suc (as_many_listings attempts (suc place))
+as_many_listings (Unserved glob ∷ attempts) place = ap suc (as_many_listings attempts (suc place))
 
-pub listings_before : (listings : List Listing) (place end : ℕ) → place + length (map event_of listings) ≤ end →
-    AllByRecursion (λ listing. listing < end) (listings_from place (map event_of listings))
+pub listings_before : (attempts : List Attempt) (place end : ℕ) → place + length (map event_tried attempts) ≤ end →
+    AllByRecursion (λ listing. listing < end) (listings_from place (map event_tried attempts))
 listings_before [] place end within = tt
-listings_before (listing ∷ listings) place end within = (omega (arith, within), listings_before listings (suc place) end (omega (arith, within)))
+listings_before (Served listing ∷ attempts) place end within = (omega (arith, within), listings_before attempts (suc place) end (omega (arith, within)))
+listings_before (Unserved glob ∷ attempts) place end within = (omega (arith, within), listings_before attempts (suc place) end (omega (arith, within)))
 
 -- ---- what they are
 
 module _ (trace : Trace) where
-  pub list_globs : (listings : List Listing) (place : ℕ) → AreAt trace.events place (map event_of listings) →
-      ListGlobs trace (map (λ listing. listing.glob) listings) (listings_from place (map event_of listings))
+  pub list_globs : (attempts : List Attempt) (place : ℕ) → AreAt trace.events place (map event_tried attempts) →
+      ListGlobs trace (map glob_tried attempts) (listings_from place (map event_tried attempts))
   list_globs [] place at = tt
-  list_globs (listing ∷ listings) place at = (inl (listing.shown, at.0), list_globs listings (suc place) at.1)
+  list_globs (Served listing ∷ attempts) place at = (inl (listing.shown, at.0), list_globs attempts (suc place) at.1)
+  list_globs (Unserved glob ∷ attempts) place at = (inr at.0, list_globs attempts (suc place) at.1)
 
-  pub good_listings : (listings : List Listing) (place : ℕ) → AreAt trace.events place (map event_of listings) →
-      AllByRecursion (IsGoodListing trace) (listings_from place (map event_of listings))
-  good_listings [] place at = tt
-  good_listings (listing ∷ listings) place at = (
+  -- where none failed
+  pub good_listings : (attempts : List Attempt) (place : ℕ) → flat_map unserved_by attempts ≡ [] → AreAt trace.events place (map event_tried attempts) →
+      AllByRecursion (IsGoodListing trace) (listings_from place (map event_tried attempts))
+  good_listings [] place none at = tt
+  good_listings (Served listing ∷ attempts) place none at = (
     record { root = _; depth = _; entries = listing.shown; listed = at.0 },
-    good_listings listings (suc place) at.1,
+    good_listings attempts (suc place) none at.1,
   )
+  good_listings (Unserved glob ∷ attempts) place none at = absurd (let q : _ ∷ flat_map unserved_by attempts ≡ [] = none in cc)
 
 -- none of them is an opening
-pub no_opening : (events : List Event) (listings : List Listing) (place opening : ℕ) (path : List ℕ) (number : ℕ) (begun : Sight) → AreAt events place (map event_of listings) →
-    place ≤ opening → opening < place + length (map event_of listings) → slice_get events opening ≡ Some (Opened path number begun) → ⊥
+pub no_opening : (events : List Event) (attempts : List Attempt) (place opening : ℕ) (path : List ℕ) (number : ℕ) (begun : Sight) → AreAt events place (map event_tried attempts) →
+    place ≤ opening → opening < place + length (map event_tried attempts) → slice_get events opening ≡ Some (Opened path number begun) → ⊥
 no_opening events [] place opening path number begun at since within is = omega (arith, since, within)
-no_opening events (listing ∷ listings) place opening path number begun at since within is =
-    ⊎_elim (λ (here : place ≡ opening). no_listing (sym at.0 ∙ ap (slice_get events) here ∙ is))
-    (λ later. no_opening events listings (suc place) opening path number begun at.1 (omega (arith, later)) (omega (arith, within)) is) (eq-or-lt_of_le since)
+no_opening events (attempt ∷ attempts) place opening path number begun at since within is =
+    ⊎_elim (λ (here : place ≡ opening). no_listing attempt (sym at.0 ∙ ap (slice_get events) here ∙ is))
+    (λ later. no_opening events attempts (suc place) opening path number begun at.1 (omega (arith, later)) (omega (arith, within)) is) (eq-or-lt_of_le since)
   where
-    no_listing : Some (event_of listing) ≡ Some (Opened path number begun) → ⊥
-    no_listing same = cc
+    no_listing : (one : Attempt) → Some (event_tried one) ≡ Some (Opened path number begun) → ⊥
+    no_listing (Served listing) same = cc
+    no_listing (Unserved glob) same = cc
 
 -- ---- what they show
 
@@ -101,16 +109,28 @@ listed_entries : (root other : List ℕ) (depth another : ℕ) (entries more : L
 listed_entries root other depth another entries more is = cc
 
 module _ (trace : Trace) (shown : Shown) where
-  pub shows_at : (listings : List Listing) (place : ℕ) → AreAt trace.events place (map event_of listings) → Contains (shown_in listings) shown →
-      ShowsAt trace (listings_from place (map event_of listings)) shown
+  shows_later : (place : ℕ) (listings : List ℕ) → ShowsAt trace listings shown → ShowsAt trace (place ∷ listings) shown
+  shows_later place listings of = record {
+    listing = of.listing;
+    of_listings = later_there place of.listing listings of.of_listings;
+    root = of.root;
+    depth = of.depth;
+    entries = of.entries;
+    listed = of.listed;
+    among = of.among;
+  }
+
+  pub shows_at : (attempts : List Attempt) (place : ℕ) → AreAt trace.events place (map event_tried attempts) → Contains (shown_in (served_in attempts)) shown →
+      ShowsAt trace (listings_from place (map event_tried attempts)) shown
   shows_at [] place at there = absurd (none_there shown there)
-  shows_at (listing ∷ listings) place at there =
-      by_case (Contains-append_cases listing.shown (shown_in listings) shown there) (shows_at listings (suc place) at.1)
+  shows_at (Served listing ∷ attempts) place at there =
+      by_case (Contains-append_cases listing.shown (shown_in (served_in attempts)) shown there) (shows_at attempts (suc place) at.1)
     where
       behind : List ℕ
-      behind = listings_from (suc place) (map event_of listings)
+      behind = listings_from (suc place) (map event_tried attempts)
 
-      by_case : Contains listing.shown shown ⊎ Contains (shown_in listings) shown → (Contains (shown_in listings) shown → ShowsAt trace behind shown) → ShowsAt trace (place ∷ behind) shown
+      by_case : Contains listing.shown shown ⊎ Contains (shown_in (served_in attempts)) shown → (Contains (shown_in (served_in attempts)) shown → ShowsAt trace behind shown) →
+          ShowsAt trace (place ∷ behind) shown
       by_case (inl here) later = record {
         listing = place;
         of_listings = first_there place behind;
@@ -120,33 +140,26 @@ module _ (trace : Trace) (shown : Shown) where
         listed = at.0;
         among = here;
       }
-      by_case (inr there) later =
-          let of = later there in
-          record {
-            listing = of.listing;
-            of_listings = later_there place of.listing behind of.of_listings;
-            root = of.root;
-            depth = of.depth;
-            entries = of.entries;
-            listed = of.listed;
-            among = of.among;
-          }
+      by_case (inr there) later = shows_later place behind (later there)
+  shows_at (Unserved glob ∷ attempts) place at there =
+      shows_later place (listings_from (suc place) (map event_tried attempts)) (shows_at attempts (suc place) at.1 there)
 
-  pub shown_by : (listings : List Listing) (place : ℕ) → AreAt trace.events place (map event_of listings) →
-      ShowsAt trace (listings_from place (map event_of listings)) shown → Contains (shown_in listings) shown
+  pub shown_by : (attempts : List Attempt) (place : ℕ) → AreAt trace.events place (map event_tried attempts) →
+      ShowsAt trace (listings_from place (map event_tried attempts)) shown → Contains (shown_in (served_in attempts)) shown
   shown_by [] place at shows = absurd (none_there shows.listing shows.of_listings)
-  shown_by (listing ∷ listings) place at shows =
-      by_case (there_cases place shows.listing (listings_from (suc place) (map event_of listings)) shows.of_listings) (shown_by listings (suc place) at.1)
+  shown_by (Served listing ∷ attempts) place at shows =
+      by_case (there_cases place shows.listing (listings_from (suc place) (map event_tried attempts)) shows.of_listings) (shown_by attempts (suc place) at.1)
     where
-      by_case : (place ≡ shows.listing) ⊎ Contains (listings_from (suc place) (map event_of listings)) shows.listing →
-          (ShowsAt trace (listings_from (suc place) (map event_of listings)) shown → Contains (shown_in listings) shown) → Contains (shown_in (listing ∷ listings)) shown
+      by_case : (place ≡ shows.listing) ⊎ Contains (listings_from (suc place) (map event_tried attempts)) shows.listing →
+          (ShowsAt trace (listings_from (suc place) (map event_tried attempts)) shown → Contains (shown_in (served_in attempts)) shown) →
+          Contains (shown_in (served_in (Served listing ∷ attempts))) shown
       by_case (inl here) later =
           let same : listing.shown ≡ shows.entries =
           listed_entries _ shows.root _ shows.depth listing.shown shows.entries
           (sym at.0 ∙ ap (slice_get trace.events) here ∙ shows.listed) in
-          Contains-append_left listing.shown (shown_in listings) shown (subst (λ (l : List Shown). Contains l shown) (sym same) shows.among)
+          Contains-append_left listing.shown (shown_in (served_in attempts)) shown (subst (λ (l : List Shown). Contains l shown) (sym same) shows.among)
       by_case (inr there) later =
-          Contains-append_right listing.shown (shown_in listings) shown
+          Contains-append_right listing.shown (shown_in (served_in attempts)) shown
           (later (record {
             listing = shows.listing;
             of_listings = there;
@@ -156,3 +169,20 @@ module _ (trace : Trace) (shown : Shown) where
             listed = shows.listed;
             among = shows.among;
           }))
+  shown_by (Unserved glob ∷ attempts) place at shows =
+      by_case (there_cases place shows.listing (listings_from (suc place) (map event_tried attempts)) shows.of_listings) (shown_by attempts (suc place) at.1)
+    where
+      by_case : (place ≡ shows.listing) ⊎ Contains (listings_from (suc place) (map event_tried attempts)) shows.listing →
+          (ShowsAt trace (listings_from (suc place) (map event_tried attempts)) shown → Contains (shown_in (served_in attempts)) shown) →
+          Contains (shown_in (served_in attempts)) shown
+      by_case (inl here) later =
+          absurd (let q : Some ListingFailed ≡ Some (Listed shows.root shows.depth shows.entries) = sym at.0 ∙ ap (slice_get trace.events) here ∙ shows.listed in cc)
+      by_case (inr there) later = later (record {
+        listing = shows.listing;
+        of_listings = there;
+        root = shows.root;
+        depth = shows.depth;
+        entries = shows.entries;
+        listed = shows.listed;
+        among = shows.among;
+      })

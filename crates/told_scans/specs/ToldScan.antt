@@ -1,6 +1,7 @@
--- One scan as it was told (Filebeat reference, filestream input; this project's profile): what the folder had told before it, behind its listings and
--- behind its askings; what asking the listed files for their keys came to; which of those with a key are followed; its moment.
--- The run around it goes on behind it, with other scans before and behind.
+-- One scan as it was told (Filebeat reference, filestream input; this project's profile): what the folder had told before it, after its listings and
+-- after its askings; what asking the listed files for their keys came to; which of those with a key are followed; its moment.
+-- A listing or an asking may have failed: the scan goes on past it, and is whole only if none did. The run around it goes on after it, with other
+-- scans before and after.
 use Rattle.std.specs.Prelude.{◌≡◌, ℕ, ◌-◌, ◌<◌, ◌≤◌, min, Bool, List, [], ◌∷◌, ◌++◌, All, drop, flat_map, length, map, Option, Some, None}
 use Rattle.std.specs.List.{AllByRecursion}
 use Rattle.event_tree.specs.declared.input_rule.InputRule.{InputRule}
@@ -8,10 +9,13 @@ use Rattle.event_tree.specs.declared.settings.Settings.{Settings}
 use Rattle.kept_rows.specs.Run.{Asking, Run, Scan}
 use Rattle.kept_rows.specs.Scans.{IsBehind, listings_from}
 use Rattle.kept_rows.specs.Trace.{OpenTail, WireTold}
-use Rattle.outside.specs.Folders.{FolderHistory}
-use Rattle.prospect.specs.AskedFiles.{Answer, AskedFile, AsksFrom, ByName, Gave, NotFound, TooFew, keyed_by}
+use Rattle.outside.specs.Folders.{Event, FolderHistory, ListingFailed}
+use Rattle.prospect.specs.AskedFiles.{Answer, AskedFile, ByName, Gave, NotFound, TooFew, keyed_by}
 use Rattle.prospect.specs.Doubled.{PartsDoubled}
-use Rattle.prospect.specs.ListedFiles.{IsKeyed, ScansFiles}
+use Rattle.prospect.specs.ListedFiles.{AreFilesShown, IsKeyed}
+use Rattle.prospect.specs.Members.{globs_of}
+use Rattle.prospect.specs.PastFaults.{Answered, Attempt, Faulted, Served, TriesOne, Trial, Unserved, answered_in, faulted_by, file_tried, glob_tried, served_in, unserved_by}
+use Rattle.prospect.specs.Scan.{Listing, event_of, with_events}
 use Rattle.prospect.specs.declared.listed.Listed.{Listed}
 use Rattle.wire_base.specs.declared.row.Row.{Row}
 use Rattle.told_scans.specs.FolderOn.{FolderGoesOn}
@@ -23,7 +27,8 @@ pub record ToldScan : Type 0 where
   pub earlier : FolderHistory
   pub listed : FolderHistory
   pub scanned : FolderHistory
-  -- the listed files, each asked for its key
+  -- what was asked of the listed files, and those that answered
+  pub askings : List Asking
   pub asked : List AskedFile
   -- the first file of each key, and the others
   pub files : List Listed
@@ -48,7 +53,7 @@ abbrev pub scan_by : ToldScan → Scan
 scan_by told = record {
   moment = told.moment;
   listings = listings_from (length told.earlier.events) (drop (length told.earlier.events) told.listed.events);
-  askings = map asking_of told.asked;
+  askings = told.askings;
 }
 
 -- how long from a scan to the next, at least: as long as the input says that wants it soonest
@@ -63,14 +68,45 @@ IsDue told now = least_interval told.settings.inputs ≤ now - told.moment
 
 -- ---- how it was told
 
--- one listing for each glob; each file that they showed was asked for its key, and those with one are parted
+-- a failed listing is in the folder's list, too
+abbrev pub event_tried : Attempt → Event
+event_tried (Served listing) = event_of listing
+event_tried (Unserved glob) = ListingFailed
+
+-- the file was to be opened at this place of the folder's list, if opening or reading it failed
+abbrev pub asking_at : ℕ → Trial → Asking
+asking_at place (Answered asked) = asking_of asked
+asking_at place (Faulted one) = record { input = one.input; path = one.path; opening = Some place }
+
+-- one after another, and nothing else was done
+abbrev pub AsksSo : List InputRule → List Trial → List Asking → FolderHistory → FolderHistory → Type 0
+AsksSo inputs [] [] before after = after ≡ before
+AsksSo inputs [] (asking ∷ askings) before after = ⊥
+AsksSo inputs (trial ∷ trials) [] before after = ⊥
+AsksSo inputs (trial ∷ trials) (asking ∷ askings) before after =
+    (mid : FolderHistory) × TriesOne inputs trial before mid × (asking ≡ asking_at (length before.events) trial) × AsksSo inputs trials askings mid after
+
+-- one listing was tried for each glob; each file that the served ones showed was asked for its key, and those that answered one are parted
 pub record IsTold (told : ToldScan) : Type 0 where
+  pub attempts : List Attempt
+  pub for_each_glob : map glob_tried attempts ≡ globs_of told.settings.inputs
+  pub listed_is : told.listed ≡ with_events told.earlier (map event_tried attempts)
+  pub listings : List Listing
+  pub served : served_in attempts ≡ listings
   pub all : List Listed
-  pub scans : ScansFiles told.settings.inputs told.earlier all (Some told.listed)
+  pub shown : AreFilesShown told.settings.inputs listings all
   pub keyed : All (IsKeyed told.settings.inputs) all
-  pub asked_are : map (λ (one : AskedFile). one.listed) told.asked ≡ all
-  pub asks : AsksFrom told.settings.inputs told.asked told.listed told.scanned
+  pub trials : List Trial
+  pub tried_are : map file_tried trials ≡ all
+  pub answered : answered_in trials ≡ told.asked
+  pub asks : AsksSo told.settings.inputs trials told.askings told.listed told.scanned
   pub parts : PartsDoubled (flat_map keyed_by told.asked) told.files told.doubled
+
+-- no listing failed, and no asking
+pub record IsToldWithoutFault (told : ToldScan) : Type 0 where
+  pub is : IsTold told
+  pub none_failed : flat_map unserved_by is.attempts ≡ []
+  pub none_faulted : flat_map faulted_by is.trials ≡ []
 
 -- ---- the run around it
 

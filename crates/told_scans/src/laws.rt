@@ -1,12 +1,13 @@
 ghost use Rattle.kept_rows.specs.Run.{Run, Scan};
 ghost use Rattle.kept_rows.specs.Scans.{IsWhole};
+ghost use Rattle.told_scans.specs.Exact.{ShowsExactly};
 ghost use Rattle.told_scans.specs.Partial.{IsPartial};
-ghost use Rattle.told_scans.specs.ToldScan.{IsAround, IsTold, RunAround, ToldScan, run_around, scan_by};
+ghost use Rattle.told_scans.specs.ToldScan.{IsAround, IsTold, IsToldWithoutFault, RunAround, ToldScan, run_around, scan_by};
 
-/// A scan that listed for each glob and asked each file, as its calls tell it, is a whole scan of each run around it. A law;
+/// A scan that listed for each glob and asked each file, as its calls report it, without a fault is a whole scan of each run around it. A law;
 /// it computes nothing.
 pub fn told_scans_are_whole()
-    ensures { (told : ToldScan) (around : RunAround) → IsTold told → IsAround told around →
+    ensures { (told : ToldScan) (around : RunAround) → IsToldWithoutFault told → IsAround told around →
         IsWhole (run_around told around) (scan_by told) }
 {}
 
@@ -14,4 +15,11 @@ pub fn told_scans_are_whole()
 /// it computes nothing.
 pub fn partial_scans_are_never_whole()
     ensures { (run : Run) (scan : Scan) → IsPartial run scan → ¬ (IsWhole run scan) }
+{}
+
+/// A scan shows the files that it gives with their keys, paths, sizes and moments, and no other key, also if a listing or an asking of it
+/// failed. A law; it computes nothing.
+pub fn told_scans_show_what_was_listed()
+    ensures { (told : ToldScan) (around : RunAround) → IsTold told → IsAround told around →
+        ShowsExactly (run_around told around) (scan_by told) told.files }
 {}

@@ -2,14 +2,16 @@
 //! asking came to, which files are followed, its moment; and what that scan is in the words of a run, whichever scans stand
 //! before and behind it.
 //!
-//! Its listings stand one behind the other in the folder's list, one for each glob, and right behind them its askings, in
-//! the order of the files. It shows each listed file that has a key, with that key and under its path, and no other; of
-//! several with one key the first path is followed.
+//! Its listings are in the folder's list, one for each glob, and right after them its askings, in the order of the files. A
+//! listing or an asking may have failed: the scan goes on past it. It shows each listed file that has a key, with that key and
+//! under its path, and no other; of several with one key the first path is followed.
 //!
-//! The laws say that a scan that was told whole is a whole one, and that a partial one never is. Definitions, laws and lemmas
-//! alone; nothing here runs.
+//! The laws say that a scan without a fault is a whole one, that a partial one never is, and that both show what was listed.
+//! Definitions, laws and lemmas only; nothing here runs.
 #![tactic(auto)]
 
 mod laws;
 
-pub use laws::{partial_scans_are_never_whole, told_scans_are_whole};
+pub use laws::{
+    partial_scans_are_never_whole, told_scans_are_whole, told_scans_show_what_was_listed,
+};

@@ -1,5 +1,5 @@
-use Rattle.told_scans.proofs.ScanOf.{is_whole}
+use Rattle.told_scans.proofs.ScanWhole.{is_whole}
 use Rattle.told_scans.proofs.laws.told_scans_are_whole.Goals as goal
 
 pub returns : goal.returns
-returns c = λ told around has on. is_whole told has around on
+returns c = λ told around whole on. is_whole told whole around on
