@@ -6,7 +6,7 @@ use Rattle.accounts.specs.ByScans.{IsByScans}
 use Rattle.kept_rows.proofs.Showing.{both}
 use Rattle.kept_rows.specs.Drained.{IsOfNoOther}
 use Rattle.kept_rows.specs.Run.{Run, Scan}
-use Rattle.kept_rows.specs.Scans.{AreScans, WasAskedSo, WasAskedWell, listings_from, listings_of}
+use Rattle.kept_rows.specs.Scans.{AreScans, listings_from, listings_of}
 use Rattle.kept_rows.specs.Trace.{WireTold}
 use Rattle.outside.specs.Folders.{Event, FolderHistory}
 use Rattle.prospect.specs.AskedFiles.{AskedFile}
