@@ -9,6 +9,7 @@ use Rattle.batch_worker.specs.Answers.{FailsFor, FaultIsTold, Finishes, IsFaultA
 use Rattle.batch_worker.specs.Ending.{CanFinish, HasTalks}
 use Rattle.batch_worker.specs.Held.{carried_in}
 use Rattle.batch_worker.specs.Keeping.{FailsAt, KeepsMoments, SameMoments, WorkerGoes, failures_since, one_failure_more}
+use Rattle.batch_worker.specs.Links.{IsAllOut}
 use Rattle.batch_worker.specs.Rests.{IsResting, rest_end}
 use Rattle.batch_worker.specs.Seen.{Seen}
 use Rattle.batch_worker.specs.Standing.{HasTalk, Speaks, StandsFor}
@@ -460,8 +461,8 @@ module _ {L : Type 0} (told : L → Option Talk) (timeout start : ℕ) where
         let told_it = told_fault moments all old f (told end_of.ended) at fault in
         at_once f end_of.ended told_it.0 told_it.1 (inr told_it.2)
 
-    timed_out : (since until : Moment) (end_of : Finishes told faults idles before after old new (IsTimedOut told idles now old since until)) (f : IsFailingSo told timeout start moments all old) → EndsBy f end_of.ended
-    timed_out since until end_of f =
+    timed_out : (since until : Moment) → IsAllOut old → (end_of : Finishes told faults idles before after old new (IsTimedOut told idles now old since until)) (f : IsFailingSo told timeout start moments all old) → EndsBy f end_of.ended
+    timed_out since until all_out end_of f =
         let cause = end_of.cause in
         let told_it = idled_talk moments all old f (told end_of.link) (told end_of.ended) f.stands.exchange.talk (speaks_of moments all old f end_of.link end_of.was) cause.idled in
         let silent = silent_left moments all old f cause.some_outs in
@@ -472,7 +473,7 @@ module _ {L : Type 0} (told : L → Option Talk) (timeout start : ℕ) where
           rest = [];
           left_are = sym (append-nil f.left);
           fails = inr (record {
-            unanswered = unanswered moments all old f told_it.0 told_it.2 told_it.3 cause.all_out cause.in_flight;
+            unanswered = unanswered moments all old f told_it.0 told_it.2 told_it.3 all_out.out all_out.begun;
             own = f.left;
             left = [];
             moments_are = sym (append-nil f.left);
@@ -486,10 +487,10 @@ module _ {L : Type 0} (told : L → Option Talk) (timeout start : ℕ) where
     fails_for : (failure : Failure) → FailsFor told faults idles before after now old new failure → FailsAt told before after old new now → ¬ (IsResting old now.0) → AreSo → IsSoAfter
     fails_for Connect cause at awake so = refused cause at awake so
     fails_for Send cause at awake so = finished (IsFaulty told faults) cause at (faulty cause) so
-    fails_for Receive cause at awake so = finished (IsFaulty told faults) cause at (faulty cause) so
-    fails_for Closed cause at awake so = finished (IsFaulty told faults) cause at (faulty cause) so
-    fails_for (Peer place) cause at awake so = finished (IsPeersFault told before old place) cause at (peer place cause) so
-    fails_for (TimedOut since until) cause at awake so = finished (IsTimedOut told idles now old since until) cause at (timed_out since until cause) so
+    fails_for Receive cause at awake so = finished (IsFaulty told faults) cause.finishes at (faulty cause.finishes) so
+    fails_for Closed cause at awake so = finished (IsFaulty told faults) cause.finishes at (faulty cause.finishes) so
+    fails_for (Peer place) cause at awake so = finished (IsPeersFault told before old place) cause.finishes at (peer place cause.finishes) so
+    fails_for (TimedOut since until) cause at awake so = finished (IsTimedOut told idles now old since until) cause.finishes at (timed_out since until cause.all_out cause.finishes) so
 
   same_so : (before after : Seen) (moments : List ℕ) (old new : Working L) → new ≡ old → after ≡ before → IsFailing told timeout start moments before old → IsFailing told timeout start moments after new
   same_so before after moments old new same wire so =

@@ -25,7 +25,8 @@ use Rattle.batch_worker.specs.Ending.{CanFinish, MayEnd, WithTalk}
 use Rattle.batch_worker.specs.Feeding.{FeedsTo, with_bytes}
 use Rattle.batch_worker.specs.Held.{carried_in, noted, notes_of, owed_by, settled_in}
 use Rattle.batch_worker.specs.Keeping.{Goes, WorkerGoes, failures_since}
-use Rattle.batch_worker.specs.Receiving.{Gets, Hears, HearsOver, TalkGets, outs_left, window_behind}
+use Rattle.batch_worker.specs.Links.{TalkGets}
+use Rattle.batch_worker.specs.Receiving.{Gets, Hears, HearsOver, outs_left, window_behind}
 use Rattle.batch_worker.specs.Seen.{Seen, with_link}
 use Rattle.batch_worker.specs.Sent.{AreSentOnly, AreSmall}
 use Rattle.batch_worker.specs.Standing.{HasTalk, Speaks, StandsFor}

@@ -5,7 +5,7 @@ use Rattle.lumber_client.specs.Exchange.{Exchange, acknowledged_in, payloads_of,
 use Rattle.lumber_client.specs.Held.{Held, begun_as, next_in, sent_as, waiting_in}
 use Rattle.lumber_client.specs.Standing.{StandsFor as WindowStandsFor}
 use Rattle.outside.specs.Counts.{IsAtEnd, next_count}
-use Rattle.outside.specs.Talks.{Talk, TellsReceiving, TellsSending, with_sent as talk_with_sent}
+use Rattle.outside.specs.Talks.{Talk, TellsReceiving, TellsSending, no_talk, with_sent as talk_with_sent}
 use Rattle.outside.specs.Wires.{Outcome, Refused, Finished, KeepsRefusal, TellsConnecting}
 use Rattle.outside.specs.declared.failed.Failed.{Failed}
 use Rattle.outside.specs.declared.link.Recv.TheVariants.{Got}
@@ -16,7 +16,7 @@ use Rattle.wire_base.specs.declared.talk.Piece.TheVariants.{Out}
 use Rattle.batch_worker.specs.Acknowledged.{AcknowledgeInAll}
 use Rattle.batch_worker.specs.Held.{carried_in, owed_by}
 use Rattle.batch_worker.specs.Keeping.{WorkerGoes}
-use Rattle.batch_worker.specs.Receiving.{TalkGets}
+use Rattle.batch_worker.specs.Links.{TalkGets}
 use Rattle.batch_worker.specs.Seen.{Seen, with_link}
 use Rattle.batch_worker.specs.Sent.{AreSentOnly, AreSmall}
 use Rattle.batch_worker.specs.Standing.{HasTalk, Speaks, StandsFor}
@@ -63,6 +63,11 @@ module _ {L : Type 0} (told : L → Option Talk) where
   pub connecting_tells_none : (link : L) (outcomes now : Option (List Outcome)) (faults : ℕ) → TellsConnecting told outcomes (Ok link) now faults → now ≡ outcomes
   connecting_tells_none link None now faults tells = tells.0
   connecting_tells_none link (Some outcomes) now faults tells = tells.1
+
+  -- and nothing went over it yet
+  pub connecting_tells_unused : (link : L) (outcomes now : Option (List Outcome)) (faults : ℕ) → TellsConnecting told outcomes (Ok link) now faults → IfSome (told link) (λ talk. talk ≡ no_talk)
+  connecting_tells_unused link None now faults tells = subst (λ (o : Option Talk). IfSome o (λ talk. talk ≡ no_talk)) (sym tells.1) tt
+  connecting_tells_unused link (Some outcomes) now faults tells = subst (λ (o : Option Talk). IfSome o (λ talk. talk ≡ no_talk)) (sym tells.0) refl
 
   -- one that is refused does, where the wire tells
   pub connecting_tells_refusal : (error : Failed) (outcomes now : Option (List Outcome)) (faults : ℕ) → TellsConnecting told outcomes (Err error) now faults → IfSome outcomes (λ list. KeepsRefusal list now faults)

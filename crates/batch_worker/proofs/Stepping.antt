@@ -155,6 +155,7 @@ pub record Filling {L : Type 0} (told : L → Option Talk) (queue : TableId) (ol
 pub record Posting {L : Type 0} (told : L → Option Talk) (desk : TableId) (old new : Working L) : Type 0 where
   pub goes : (s : Seen) → WorkerGoes told s s old new
   pub moments : SameMoments old new
+  pub link : new.link ≡ old.link
   pub failures : new.failures ≡ old.failures
   pub none_refused : new.refused ≡ None
   pub of_this_box : PostsOf desk new.post
@@ -214,6 +215,7 @@ module _ {L : Type 0} (told : L → Option Talk) where
   posting_begins desk old new is of = record {
     goes = λ s. posted_goes told s old new is;
     moments = noted_same old new is;
+    link = ap (λ (w : Working L). w.link) is;
     failures = ap (λ (w : Working L). w.failures) is;
     none_refused = ap (λ (w : Working L). w.refused) is;
     of_this_box = subst (λ (w : Working L). PostsOf desk w.post) (sym is) (posts_still desk old.post old.refused of);
@@ -223,6 +225,7 @@ module _ {L : Type 0} (told : L → Option Talk) where
   posting_goes_on desk old mid owing new p t is = record {
     goes = λ s. goes_on _ _ _ s s s old mid new (p.goes s) (goes_on _ _ _ s s s mid owing new (settled_goes told s mid owing p.none_refused t) (posted_goes told s owing new is));
     moments = moments_on old mid new p.moments (moments_on mid owing new (settled_same mid owing t) (noted_same owing new is));
+    link = ap (λ (w : Working L). w.link) is ∙ ap (λ (w : Working L). w.link) t.is ∙ p.link;
     failures = ap (λ (w : Working L). w.failures) is ∙ ap (λ (w : Working L). w.failures) t.is ∙ p.failures;
     none_refused = ap (λ (w : Working L). w.refused) is;
     of_this_box = subst (λ (w : Working L). PostsOf desk w.post) (sym is) (posts_still desk owing.post owing.refused (subst (λ (w : Working L). PostsOf desk w.post) (sym t.is) p.of_this_box));

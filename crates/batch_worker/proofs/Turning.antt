@@ -22,7 +22,8 @@ use Rattle.batch_worker.specs.Ending.{EndsLink, IsFinished, MayEnd, failed_at, u
 use Rattle.batch_worker.specs.Feeding.{FeedsTo, with_bytes}
 use Rattle.batch_worker.specs.Held.{notes_of, owed_by}
 use Rattle.batch_worker.specs.Keeping.{FailsAt, Goes, Keeps, KeepsMoments, SameMoments, WorkerGoes, one_failure_more, WorkerKeeps}
-use Rattle.batch_worker.specs.Receiving.{Faults, HasReceived, Hears, HearsOver, Idles, TalkGets}
+use Rattle.batch_worker.specs.Links.{IsAllOut, KeepsOrMakesLink, TalkGets, UsesLink}
+use Rattle.batch_worker.specs.Receiving.{Faults, HasReceived, Hears, HearsOver, Idles}
 use Rattle.batch_worker.specs.Seen.{Seen}
 use Rattle.batch_worker.specs.Sound.{going_out}
 use Rattle.batch_worker.specs.Standing.{HasTalk, Speaks, StandsFor}
@@ -90,6 +91,7 @@ module _ {L : Type 0} (told : L → Option Talk) (faults idles : L → ℕ) wher
       is = ap (λ (w : Working L). w.link) x.is;
       grew = grew (told x.link) (told x.later) x.told_is;
     }))));
+    link = inr (inl (record { link = x.link; was = x.was; later = x.later; is = ap (λ (w : Working L). w.link) x.is; count = x.count; told_is = x.told_is }));
     outcomes = refl;
     moments = subst (λ (w : Working L). KeepsMoments now old w) (sym x.is) (record { outs = outs_sent new.window.out old.outs now; heard = inl refl });
   }
@@ -144,8 +146,8 @@ module _ {L : Type 0} (told : L → Option Talk) (faults idles : L → ℕ) wher
   heard_link now old new fault x = ap (λ (w : Working L). w.link) x.hears.is ∙ ap (λ (w : Working L). w.link) x.received.is
 
   -- bytes came
-  pub bytes_work : (s : Seen) (now : Moment) (old new : Working L) → old.window.acknowledged ≡ 0 → HearsOver told now old new None → Works told s s now old new
-  bytes_work s now old new none x = record {
+  pub bytes_work : (s : Seen) (now : Moment) (old new : Working L) → old.window.acknowledged ≡ 0 → IsAllOut old → HearsOver told now old new None → Works told s s now old new
+  bytes_work s now old new none all_out x = record {
     goes = bytes_go told s now old new none x;
     did = inr (inr (inr (inr (record {
       before = x.received.link;
@@ -154,6 +156,16 @@ module _ {L : Type 0} (told : L → Option Talk) (faults idles : L → ℕ) wher
       is = heard_link now old new None x;
       grew = grew (told x.received.link) (told x.received.later) x.received.cause.told_is;
     }))));
+    link = inr (inr (record {
+      all_out = all_out;
+      link = x.received.link;
+      was = x.received.was;
+      later = x.received.later;
+      is = heard_link now old new None x;
+      bytes = x.bytes;
+      some = omega (arith, ap length x.received.cause.some);
+      told_is = x.received.cause.told_is;
+    }));
     outcomes = refl;
     moments = moments x.received.later (subst (λ (m : Working L). Hears now m new x.bytes None) x.received.is x.hears);
   }
@@ -246,15 +258,15 @@ module _ {L : Type 0} (told : L → Option Talk) (faults idles : L → ℕ) wher
 
   -- ---- nothing came
 
-  pub waits : (s : Seen) (now : Moment) (old mid : Working L) → HasReceived old mid (Idles told idles) → old.window.out ≡ [] → 0 < length old.window.flights
+  pub waits : (s : Seen) (now : Moment) (old mid : Working L) → HasReceived old mid (Idles told idles) → IsAllOut old
       → (old.window.depth ≤ length old.window.flights) ⊎ FoundEmpty old.take → now.0 < silent_since old + old.timeout → IsWaiting told idles s s now old mid
-  waits s now old mid x out flights no_more early =
+  waits s now old mid x all_out no_more early =
       subst (λ (w : Working L). IsWaiting told idles s s now old w) (sym x.is) (record {
         goes = later_goes told s old x.link x.later x.was (λ pieces has. idle_talk (told x.link) (told x.later) pieces x.cause.told_is has);
         wire = refl;
         moments = same_keeps_moments now old (over_link told old (Some x.later)) (record { outs = refl; heard = refl });
-        all_out = out;
-        in_flight = flights;
+        all_out = all_out;
+        window = refl;
         no_more = no_more;
         link = x.link;
         was = x.was;
@@ -298,11 +310,22 @@ module _ {L : Type 0} (told : L → Option Talk) (faults idles : L → ℕ) wher
         cause = record { unlinked = sym (ap (λ (w : Working L). w.link) f.is) ∙ none; rose = rose; kept = kept };
       }
 
-  pub begin_works : (before after : Seen) (now : Moment) (old mid linked new : Working L) → after.outcomes ≡ before.outcomes → ((s : Seen) → WorkerGoes told s s old mid) → IsFilled old mid → WorkerGoes told before after mid linked
+  -- what it begins goes over the link that it had, or over the one that was made
+  link_begun : (old mid linked new : Working L) → IsFilled old mid → KeepsOrMakesLink told mid linked → BeginsOne linked new → UsesLink told old new
+  link_begun old mid linked new f kept b =
+      let was : mid.link ≡ old.link = ap (λ (w : Working L). w.link) f.is in
+      let is : new.link ≡ linked.link = ap (λ (w : Working L). w.link) b.is in
+      elim kept [
+        | inl same ↦ inl (inl (is ∙ same ∙ was))
+        | inr made ↦ inl (inr (record { none = sym was ∙ made.none; link = made.link; is = is ∙ made.is; unused = made.unused }))
+      ]
+
+  pub begin_works : (before after : Seen) (now : Moment) (old mid linked new : Working L) → after.outcomes ≡ before.outcomes → KeepsOrMakesLink told mid linked → ((s : Seen) → WorkerGoes told s s old mid) → IsFilled old mid → WorkerGoes told before after mid linked
       → linked ≡ over_link told mid linked.link → BeginsOne linked new → Works told before after now old new
-  begin_works before after now old mid linked new outcomes gathered f g is b = record {
+  begin_works before after now old mid linked new outcomes kept gathered f g is b = record {
     goes = goes_on _ _ _ before before after old mid new (gathered before) (goes_on _ _ _ before after after mid linked new g (begun_goes told after linked new b));
     did = inr (inr (inr (inl (more_flights old mid linked new f is b))));
+    link = link_begun old mid linked new f kept b;
     outcomes = outcomes;
     moments = same_keeps_moments now old new (moments_on old mid new (filled_same old mid f) (begun_same mid linked new is b));
   }

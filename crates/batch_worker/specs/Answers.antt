@@ -16,6 +16,7 @@ use Rattle.batch_worker.specs.declared.answer.Failure.TheVariants.{Connect, Send
 use Rattle.batch_worker.specs.declared.answer.WorkerTurn.{WorkerTurn}
 use Rattle.batch_worker.specs.declared.answer.WorkerTurn.TheVariants.{Worked, Idle, Held, NotYet, Resting, Failed}
 use Rattle.batch_worker.specs.Keeping.{FailsAt, KeepsMoments, WorkerGoes}
+use Rattle.batch_worker.specs.Links.{IsAllOut, UsesLink}
 use Rattle.batch_worker.specs.Rests.{IsResting, rest_end}
 use Rattle.batch_worker.specs.Seen.{Seen}
 use Rattle.batch_worker.specs.Standing.{HasTalk, StandsFor}
@@ -45,6 +46,7 @@ DidSome told old new taken posted = (0 < length taken) ⊎ ((0 < length posted) 
 pub record Works {L : Type 0} (told : L → Option Talk) (before after : Seen) (now : Moment) (old new : Working L) : Type 0 where
   pub goes : WorkerGoes told before after old new
   pub did : DidSome told old new goes.keeps.taken goes.keeps.posted
+  pub link : UsesLink told old new
   -- no link was refused or finished
   pub outcomes : after.outcomes ≡ before.outcomes
   pub moments : KeepsMoments now old new
@@ -62,6 +64,7 @@ pub record IsHeld {L : Type 0} (told : L → Option Talk) (capacity : ℕ) (befo
   pub goes : WorkerGoes told before after old new
   pub wire : after ≡ before
   pub moments : KeepsMoments now old new
+  pub link : new.link ≡ old.link
   pub full : FoundFull capacity new.post
 
 -- all that was begun is out and not acknowledged in full, nothing came, and no further window may be begun or the queue was
@@ -70,8 +73,8 @@ pub record IsWaiting {L : Type 0} (told : L → Option Talk) (idles : L → ℕ)
   pub goes : WorkerGoes told before after old new
   pub wire : after ≡ before
   pub moments : KeepsMoments now old new
-  pub all_out : new.window.out ≡ []
-  pub in_flight : 0 < length new.window.flights
+  pub all_out : IsAllOut old
+  pub window : new.window ≡ old.window
   pub no_more : (new.window.depth ≤ length new.window.flights) ⊎ FoundEmpty new.take
   pub link : L
   pub was : old.link ≡ Some link
@@ -100,6 +103,11 @@ pub record Finishes {L : Type 0} (told : L → Option Talk) (faults idles : L �
   -- no moment of it stays
   pub no_outs : new.outs ≡ []
   pub unheard : new.heard.0 ≡ 0
+
+-- it was read first, which it is only if all is out
+pub record FinishesAsRead {L : Type 0} (told : L → Option Talk) (faults idles : L → ℕ) (before after : Seen) (old new : Working L) (Cause : L → L → Type 0) : Type 0 where
+  pub all_out : IsAllOut old
+  pub finishes : Finishes told faults idles before after old new Cause
 
 -- it failed, or was found closed: its faults rose, and its talk is the same
 pub record IsFaulty {L : Type 0} (told : L → Option Talk) (faults : L → ℕ) (link ended : L) : Type 0 where
@@ -130,11 +138,8 @@ abbrev pub TalkIdles : Option Talk → Option Talk → Type 0
 TalkIdles None after = after ≡ None
 TalkIdles (Some talk) after = after ≡ Some (record talk { idled = true })
 
--- windows were out and not acknowledged in full, nothing came, and nothing was sent after that; the peer was silent for the
--- timeout
+-- nothing came, and nothing was sent after that; the peer was silent for the timeout
 pub record IsTimedOut {L : Type 0} (told : L → Option Talk) (idles : L → ℕ) (now : Moment) (old : Working L) (since until : Moment) (link ended : L) : Type 0 where
-  pub all_out : old.window.out ≡ []
-  pub in_flight : 0 < length old.window.flights
   pub some_outs : 0 < length old.outs
   pub idled : TalkIdles (told link) (told ended)
   pub idle : Rose (idles link) (idles ended)
@@ -146,10 +151,10 @@ pub record IsTimedOut {L : Type 0} (told : L → Option Talk) (idles : L → ℕ
 abbrev pub FailsFor : {L : Type 0} → (L → Option Talk) → (L → ℕ) → (L → ℕ) → Seen → Seen → Moment → Working L → Working L → Failure → Type 0
 FailsFor told faults idles before after now old new Connect = IsRefused before after old
 FailsFor told faults idles before after now old new Send = Finishes told faults idles before after old new (IsFaulty told faults)
-FailsFor told faults idles before after now old new Receive = Finishes told faults idles before after old new (IsFaulty told faults)
-FailsFor told faults idles before after now old new Closed = Finishes told faults idles before after old new (IsFaulty told faults)
-FailsFor told faults idles before after now old new (Peer at) = Finishes told faults idles before after old new (IsPeersFault told before old at)
-FailsFor told faults idles before after now old new (TimedOut since until) = Finishes told faults idles before after old new (IsTimedOut told idles now old since until)
+FailsFor told faults idles before after now old new Receive = FinishesAsRead told faults idles before after old new (IsFaulty told faults)
+FailsFor told faults idles before after now old new Closed = FinishesAsRead told faults idles before after old new (IsFaulty told faults)
+FailsFor told faults idles before after now old new (Peer at) = FinishesAsRead told faults idles before after old new (IsPeersFault told before old at)
+FailsFor told faults idles before after now old new (TimedOut since until) = FinishesAsRead told faults idles before after old new (IsTimedOut told idles now old since until)
 
 -- ---- each answer
 

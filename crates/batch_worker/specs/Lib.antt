@@ -5,6 +5,7 @@ pub mod Ending
 pub mod Feeding
 pub mod Held
 pub mod Keeping
+pub mod Links
 pub mod Receiving
 pub mod Rests
 pub mod Rule

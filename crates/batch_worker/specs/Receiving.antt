@@ -1,12 +1,11 @@
 -- What a worker makes of the bytes of its peer (this project's profile). Cited by private calls alone.
-use Rattle.std.specs.Prelude.{◌≡◌, ℕ, ◌-◌, ◌≤◌, List, [], ◌∷◌, ◌++◌, length, drop, Option, Some, None, is_some}
+use Rattle.std.specs.Prelude.{◌≡◌, ℕ, ◌-◌, ◌≤◌, List, [], ◌∷◌, length, drop, Option, Some, None, is_some}
 use Rattle.lumber_client.specs.Exchange.{Exchange}
 use Rattle.lumber_client.specs.Held.{Held, made_again}
 use Rattle.lumber_client.specs.Newly.{KeepsParcels}
 use Rattle.lumber_client.specs.Standing.{StandsFor as WindowStandsFor}
 use Rattle.outside.specs.Counts.{Rose}
 use Rattle.outside.specs.Talks.{Talk}
-use Rattle.wire_base.specs.declared.talk.Piece.TheVariants.{In}
 use Rattle.wire_base.specs.declared.numbers.Moment.{Moment}
 use Rattle.batch_worker.specs.declared.receiving.Received.{Received}
 use Rattle.batch_worker.specs.declared.receiving.Received.TheVariants.{Bytes, Fault, Nothing, Closed, Failed}
@@ -14,6 +13,7 @@ use Rattle.batch_worker.specs.Answers.{TalkIdles}
 use Rattle.batch_worker.specs.Feeding.{Feeds}
 use Rattle.batch_worker.specs.Held.{settled_in}
 use Rattle.batch_worker.specs.Keeping.{failures_since}
+use Rattle.batch_worker.specs.Links.{TalkGets}
 use Rattle.batch_worker.specs.Working.{Working}
 
 -- the moments of the windows that are still in flight
@@ -45,10 +45,6 @@ pub record HasReceived {L : Type 0} (old mid : Working L) (Cause : L → L → T
   pub later : L
   pub is : mid ≡ record old { link = Some later }
   pub cause : Cause link later
-
-abbrev pub TalkGets : Option Talk → List ℕ → Option Talk → Type 0
-TalkGets None bytes after = after ≡ None
-TalkGets (Some talk) bytes after = after ≡ Some (record talk { pieces = talk.pieces ++ In bytes ∷ [] })
 
 -- nothing had come
 pub record Idles {L : Type 0} (told : L → Option Talk) (idles : L → ℕ) (link later : L) : Type 0 where

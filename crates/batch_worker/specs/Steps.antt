@@ -16,6 +16,7 @@ use Rattle.wire_base.specs.declared.numbers.Moment.{Moment}
 use Rattle.wire_base.specs.declared.parcel.Parcel.{Parcel}
 use Rattle.batch_worker.specs.Held.{note_of}
 use Rattle.batch_worker.specs.Keeping.{with_posted, with_taken}
+pub use Rattle.batch_worker.specs.Links.{KeepsOrMakesLink}
 use Rattle.batch_worker.specs.Working.{Working}
 
 -- what takes is there, and of this queue

@@ -19,6 +19,7 @@ impl<L: Link> Worker<L> {
         requires of_this_box { PostsOf desk.now.id self.old.post }
         ensures goes { (s : Seen) → WorkerGoes L.told s s self.old self.new }
         ensures moments { SameMoments self.old self.new }
+        ensures link { self.new.link ≡ self.old.link }
         ensures failures { self.new.failures ≡ self.old.failures }
         ensures all_posted { IsTrue result ↔ (owed_by self.new ≡ []) }
         ensures left_only_where_full { OnFalse result (FoundFull desk.now.capacity self.new.post) }

@@ -4,7 +4,7 @@ ghost use Rattle.outside.specs.Counts.{Rose};
 ghost use Rattle.outside.specs.Wires.{KeepsRefusal};
 ghost use Rattle.batch_worker.specs.Keeping.{WorkerGoes};
 ghost use Rattle.batch_worker.specs.Seen.{seen};
-ghost use Rattle.batch_worker.specs.Steps.{BeginsOne, FailsToSend, SendsSome};
+ghost use Rattle.batch_worker.specs.Steps.{BeginsOne, FailsToSend, KeepsOrMakesLink, SendsSome};
 ghost use Rattle.lumber_client.specs.Held.{waiting_in};
 
 use crate::worker::Worker;
@@ -45,6 +45,7 @@ impl<L: Link> Worker<L> {
             self.old self.new }
         ensures is { self.new ≡ record self.old { link = self.new.link } }
         ensures linked { OnTrue result (IsSome self.new.link) }
+        ensures link { OnTrue result (KeepsOrMakesLink L.told self.old self.new) }
         ensures same_outcomes { OnTrue result (W.outcomes wire.new ≡ W.outcomes wire.old) }
         ensures refused { OnFalse result ((self.new ≡ self.old) × (self.old.link ≡ None) ×
             Rose (W.faults wire.old) (W.faults wire.new)) }

@@ -1,9 +1,10 @@
-use Rattle.std.proofs.Common.{Option, sym, subst, ◌∙◌}
+use Rattle.std.proofs.Common.{Option, Some, refl, sym, subst, ◌∙◌, inr}
 use Rattle.batch_worker.specs.Keeping.{WorkerGoes}
+use Rattle.batch_worker.specs.Links.{KeepsOrMakesLink}
 use Rattle.batch_worker.specs.Seen.{seen}
 use Rattle.batch_worker.specs.Working.{Working}
 use Rattle.batch_worker.proofs.Keeping.{goes_nowhere}
-use Rattle.batch_worker.proofs.Linking.{connecting_tells_none, connecting_tells_refusal, linked_goes, none_there, refused_goes}
+use Rattle.batch_worker.proofs.Linking.{connecting_tells_none, connecting_tells_refusal, connecting_tells_unused, linked_goes, none_there, refused_goes}
 use Rattle.batch_worker.proofs.worker.Worker.connect.Goals as goal
 
 pub returns-then-is_some-clause-goes : goal.returns-then-is_some-clause-goes
@@ -55,3 +56,29 @@ returns-clause-goes g c =
     } in
     let goes = linked_goes g.L.Link.told before after (base w.link) c.in-Ok.link none (rw c.in-Ok.is at c.connect.ensures.told) (rw c.in-Ok.is at c.connect.ensures.counts_open_links) c.connect.ensures.faults_never_fall in
     rw (← c.self.view_is) (subst (λ (l : Option g.row.L.Denot). WorkerGoes g.L.Link.told before after (base w.link) (base l)) (sym c.replace.ensures.after) goes)
+
+pub returns-clause-link : goal.returns-clause-link
+returns-clause-link g c =
+    let old = c.args.wire.now in
+    let new = c.connect.new.self in
+    let w = c.self.inside in
+    let base : Option g.row.L.Denot → Working g.row.L.Denot = λ l. record {
+      host = w.host;
+      timeout = w.timeout;
+      take = w.take;
+      post = w.post;
+      link = l;
+      window = w.window;
+      refused = w.refused;
+      failures = w.failures;
+      failed = w.failed;
+      outs = w.outs.items;
+      heard = w.heard;
+    } in
+    let made : KeepsOrMakesLink g.L.Link.told (base w.link) (base (Some c.in-Ok.link)) = inr (record {
+      none = none_there c.self.inside.link (sym c.is_some.ensures ∙ c.if-is_some.false);
+      link = c.in-Ok.link;
+      is = refl;
+      unused = connecting_tells_unused g.L.Link.told c.in-Ok.link (g.W.Wire.outcomes old) (g.W.Wire.outcomes new) (g.W.Wire.faults new) (rw c.in-Ok.is at c.connect.ensures.told);
+    }) in
+    rw (← c.self.view_is) (subst (λ (l : Option g.row.L.Denot). KeepsOrMakesLink g.L.Link.told (base w.link) (base l)) (sym c.replace.ensures.after) made)

@@ -31,5 +31,5 @@ returns g c = λ capacity.
     let before = seen (g.W.Wire.outcomes wire) (g.W.Wire.open_links wire) (g.W.Wire.faults wire) (g.W.Wire.idles wire) in
     let after = seen (g.W.Wire.outcomes later) (g.W.Wire.open_links later) (g.W.Wire.faults later) (g.W.Wire.idles later) in
     begin_works g.L.Link.told g.L.Link.faults g.L.Link.idles before after c.args.now c.args.self.now c.gather.new.self c.connect.new.self c.begin.new.self
-    c.if-not-connect.ensures.same_outcomes
+    c.if-not-connect.ensures.same_outcomes c.if-not-connect.ensures.link
     c.gather.ensures.goes c.gather.ensures.filled c.connect.ensures.goes c.connect.ensures.is c.begin.ensures.begun

@@ -14,6 +14,9 @@ returns-then-not-post_refused-clause-moments g c =
     let kept = c.if-not-post_refused.ensures.kept in
     record { outs = ap (λ (w : Working g.row.L.Denot). w.outs) kept; heard = ap (λ (w : Working g.row.L.Denot). w.heard) kept }
 
+pub returns-then-not-post_refused-clause-link : goal.returns-then-not-post_refused-clause-link
+returns-then-not-post_refused-clause-link g c = ap (λ (w : Working g.row.L.Denot). w.link) c.if-not-post_refused.ensures.kept
+
 pub returns-then-not-post_refused-clause-failures : goal.returns-then-not-post_refused-clause-failures
 returns-then-not-post_refused-clause-failures g c = ap (λ (w : Working g.row.L.Denot). w.failures) c.if-not-post_refused.ensures.kept
 
@@ -35,6 +38,11 @@ returns-then-not-post_refused-2-clause-moments g c =
     subst (λ (w : Working g.row.L.Denot). SameMoments c.args.self.now w) (sym c.if-not-post_refused-2.ensures.kept)
     (moments_on c.args.self.now mid owing c.loop-self.invariant.moments (settled_same mid owing c.loop-self-test.ensures.settled))
 
+pub returns-then-not-post_refused-2-clause-link : goal.returns-then-not-post_refused-2-clause-link
+returns-then-not-post_refused-2-clause-link g c =
+    ap (λ (w : Working g.row.L.Denot). w.link) c.if-not-post_refused-2.ensures.kept
+    ∙ ap (λ (w : Working g.row.L.Denot). w.link) c.loop-self-test.ensures.settled.is ∙ c.loop-self.invariant.link
+
 pub returns-then-not-post_refused-2-clause-failures : goal.returns-then-not-post_refused-2-clause-failures
 returns-then-not-post_refused-2-clause-failures g c =
     ap (λ (w : Working g.row.L.Denot). w.failures) c.if-not-post_refused-2.ensures.kept
@@ -47,6 +55,9 @@ loop-self-preserved g c =
 pub returns-clause-moments : goal.returns-clause-moments
 returns-clause-moments g c =
     subst (λ (w : Working g.row.L.Denot). SameMoments c.args.self.now w) (sym c.loop-self-test.ensures.same) c.loop-self.invariant.moments
+
+pub returns-clause-link : goal.returns-clause-link
+returns-clause-link g c = ap (λ (w : Working g.row.L.Denot). w.link) c.loop-self-test.ensures.same ∙ c.loop-self.invariant.link
 
 pub returns-clause-failures : goal.returns-clause-failures
 returns-clause-failures g c = ap (λ (w : Working g.row.L.Denot). w.failures) c.loop-self-test.ensures.same ∙ c.loop-self.invariant.failures

@@ -11,6 +11,7 @@ returns-then-hand_on-clause-answers g c =
     let goes = c.hand_on.ensures.goes s in
     record {
       goes = goes;
+      link = inl (inl c.hand_on.ensures.link);
       did = inr (inl (all_posted g.L.Link.told g.L.Link.faults g.L.Link.idles s c.args.self.now c.hand_on.new.self goes (c.if-hand_on.ensures.all_posted.0 refl) c.if-owes.ensures.some));
       outcomes = refl;
       moments = same_keeps_moments c.args.now c.args.self.now c.hand_on.new.self c.hand_on.ensures.moments;
@@ -24,6 +25,7 @@ returns-else-hand_on-clause-answers g c =
       goes = c.hand_on.ensures.goes s;
       wire = refl;
       moments = same_keeps_moments c.args.now c.args.self.now c.hand_on.new.self c.hand_on.ensures.moments;
+      link = c.hand_on.ensures.link;
       full = c.if-hand_on.ensures.left_only_where_full;
     }
 
