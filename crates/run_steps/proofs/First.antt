@@ -46,8 +46,9 @@ use Rattle.run_steps.specs.Began.{Began}
 use Rattle.run_steps.specs.RunState.{Finished, Reading, RunState}
 use Rattle.run_steps.specs.Shown.{HasShown}
 use Rattle.run_steps.specs.SoFar.{SoFar, files_in, files_of}
-use Rattle.run_steps.specs.Stands.{AreCounted, AreTurnedIn, Stands, watch_of}
+use Rattle.run_steps.specs.Stands.{AreCounted, AreTurnedIn, HaveGiven, Stands, watch_of}
 use Rattle.run_steps.proofs.Giving.{FirstGiven, first_given}
+use Rattle.run_steps.proofs.Grounds.{all_backed}
 
 posted_both : (xs ys : List Sender) → posted_by (xs ++ ys) ≡ posted_by xs ++ posted_by ys
 posted_both [] ys = refl
@@ -222,6 +223,12 @@ module _ {T W L D : Type 0} (words : Words T W L D) (start : Began D) (crew : Cr
           (two_none (held_notes (lanings crew.lanes.items)) (owed_notes crew.carriers.items) no_held_notes no_owed));
     }
 
+    gave : HaveGiven so_far.told (files_in so_far)
+    gave = record {
+      parcels = subst (λ (l : List Turned). AsOften [] (flat_map parcels_told l)) (sym no_files) (λ h. refl);
+      notes_are = subst (λ (l : List Turned). AsOften [] (flat_map notes_told l)) (sym no_files) (λ h. refl);
+    }
+
     spans_are : spans_told (lanings crew.lanes.items) < 2 ^ 64 - 1 → spans_in (files_in so_far) ≡ spans_told (lanings crew.lanes.items)
     spans_are few = ap spans_in no_files ∙ sym (no_spans (lanings crew.lanes.items) none)
 
@@ -266,13 +273,11 @@ module _ {T W L D : Type 0} (words : Words T W L D) (start : Began D) (crew : Cr
         given = given.given;
       };
       books = record {
-        gave = record {
-          parcels = subst (λ (l : List Turned). AsOften [] (flat_map parcels_told l)) (sym no_files) (λ h. refl);
-          notes_are = subst (λ (l : List Turned). AsOften [] (flat_map notes_told l)) (sym no_files) (λ h. refl);
-        };
+        gave = gave;
         booked = booked;
         heard = starts_are words.links words.wires crew.carriers.items ∙ sym made.heard;
         placed = placed;
+        backed = all_backed (lanings crew.lanes.items) crew.carriers.items [] (notes pass.got) [] so_far.told (files_in so_far) gave placed;
         spans = spans_are;
       };
       notes = record {

@@ -27,6 +27,7 @@ use Rattle.outside.specs.declared.history.Sight.{Sight}
 use Rattle.pass_sums.specs.Weight.{AsOften, weigh}
 use Rattle.pass_sums.proofs.Weights.{weigh-append}
 use Rattle.prospect.proofs.Lists.{all_append}
+use Rattle.rounds.specs.Books.{ArePlaced}
 use Rattle.rounds.specs.Crewed.{lanings}
 use Rattle.rounds.specs.Pairs.{SomeOf}
 use Rattle.rounds.specs.Settled.{spans_told}
@@ -55,6 +56,7 @@ use Rattle.run_steps.proofs.Causing.{some_parted}
 use Rattle.run_steps.proofs.Closing.{closed_now, closed_still, closes_its, closes_no_other, open_still}
 use Rattle.accounts.proofs.Joining.{same_slot, tells_slots}
 use Rattle.run_steps.proofs.First.{got_within}
+use Rattle.run_steps.proofs.Grounds.{all_backed}
 use Rattle.run_steps.proofs.LastOver.{some_behind, some_first}
 use Rattle.run_steps.proofs.LessOne.{all_in, each_in, less_in, often_in, one_in, some_in}
 use Rattle.run_steps.proofs.LettingGo.{StandsFor, each_kept, notes_kept, one_was, parcels_kept, passes_kept, spans_kept, stands_for}
@@ -349,6 +351,9 @@ module _ {T W L D : Type 0} (words : Words T W L D) (start : Began D) (moments :
             (told_as_often notes_told (files_in so_far) (files_in after) same_files);
       }
 
+      placed : ArePlaced so_far.told new.lanes carriers so_far.queued got so_far.boxed
+      placed = placed_by old.lanes new.lanes (parcels_kept one old.lanes new.lanes go) (notes_kept one old.lanes new.lanes go) so_far.told carriers so_far.queued got so_far.boxed reads.books.placed
+
       reads_without : Reads after new
       reads_without = record {
         files = record {
@@ -371,7 +376,8 @@ module _ {T W L D : Type 0} (words : Words T W L D) (start : Began D) (moments :
           booked = booked_by old.lanes new.lanes (parcels_kept one old.lanes new.lanes go) (notes_kept one old.lanes new.lanes go) words.links words.wires so_far.told carriers
               (passes_kept one old.lanes new.lanes go) reads.books.booked;
           heard = reads.books.heard;
-          placed = placed_by old.lanes new.lanes (parcels_kept one old.lanes new.lanes go) (notes_kept one old.lanes new.lanes go) so_far.told carriers so_far.queued got so_far.boxed reads.books.placed;
+          placed = placed;
+          backed = all_backed new.lanes carriers so_far.queued got so_far.boxed so_far.told (files_in after) have_given placed;
           spans = spans_are;
         };
       }

@@ -105,5 +105,5 @@ module _ {T W L D F K B : Type 0} (words : StepWords T W L D F K B) (context : C
 
   pub record Goes (met : Option Met) (before after : Stop T W L D F K B) : Type 0 where
     pub keeps : Keeps met before after
-    -- what was known of the events told, and of what the areas may hold, is known of them afterwards
+    -- what was known of the events told, that notes are backed, and of what the areas may hold, is known of them afterwards
     pub onward : Onward words.all context.once (state_at words before) (state_at words after)

@@ -2,6 +2,7 @@
 -- keeper noted of it, and what the areas may hold. Each step leads from a state for which this stands to another one.
 use Rattle.std.specs.Prelude.{◌≡◌, ◌≢◌, ℕ, ◌^◌, ◌-◌, ◌<◌, min, List, [], ◌++◌, Contains, Option, IsSome, count_by, length, map}
 use Rattle.std.specs.List.{AllByRecursion, flat_map}
+use Rattle.accounts.specs.Ground.{HasGround}
 use Rattle.accounts.specs.Opened.{Opened}
 use Rattle.accounts.specs.ToldFile.{IsReadThrough, IsToldFile}
 use Rattle.accounts.specs.ToldNotes.{AreMixed}
@@ -15,7 +16,7 @@ use Rattle.keeper.specs.Storing.{Stores}
 use Rattle.lanes.specs.Laning.{Laning}
 use Rattle.outside.specs.Folders.{FolderHistory}
 use Rattle.pass_sums.specs.Weight.{AsOften}
-use Rattle.rounds.specs.Books.{AreBooked, ArePlaced, Heard, Told}
+use Rattle.rounds.specs.Books.{AreBooked, ArePlaced, Heard, Told, flat, held_notes, owed_notes}
 use Rattle.rounds.specs.Crewed.{lanings}
 use Rattle.rounds.specs.Settled.{spans_told}
 use Rattle.rounds.specs.Words.{LinkWords, TailWords, WireWords, Words}
@@ -112,12 +113,19 @@ pub record BooksNow (T W L : Type 0) : Type 0 where
   pub carriers : List (Carrier W L)
   pub got : List Note
 
+-- notes are backed: each one that was collected, is in the box, or is held or owed has its ground in what was told of the files, or in what
+-- was acknowledged
+abbrev pub AreAllBacked : {T W L : Type 0} → BooksNow T W L → BooksSoFar → Type 0
+AreAllBacked now so_far =
+    AllByRecursion (HasGround so_far.files (flat so_far.told.acknowledged)) (now.got ++ (so_far.boxed ++ (held_notes now.lanes ++ owed_notes now.carriers)))
+
 -- each event is in one place
 pub record Books {T W L : Type 0} (links : LinkWords L) (wires : WireWords W) (starts : List ℕ) (now : BooksNow T W L) (so_far : BooksSoFar) : Type 0 where
   pub gave : HaveGiven so_far.told so_far.files
   pub booked : AreBooked links wires so_far.told now.lanes now.carriers
   pub heard : map (λ (heard : Heard). heard.start) so_far.told.acknowledged ≡ starts
   pub placed : ArePlaced so_far.told now.lanes now.carriers so_far.queued now.got so_far.boxed
+  pub backed : AreAllBacked now so_far
   -- a count that saturates at 2^64 - 1
   pub spans : spans_told now.lanes < 2 ^ 64 - 1 → spans_in so_far.files ≡ spans_told now.lanes
 
