@@ -22,7 +22,8 @@ use Rattle.harvester.specs.declared.turn_error.TurnError.TheVariants as error
 use Rattle.harvester.proofs.Unanswered.{refused_is_part}
 use Rattle.harvester.specs.Asked.{IsGivenKey, WasAsked}
 use Rattle.harvester.specs.Held.{Held}
-use Rattle.harvester.specs.TurnLooks.{AddsSome, AreOfLook, AreOfReading, AreOfTurn, AskForKey, HasGivenKey, HasReached, HasRead, IsRefused, LooksOn}
+use Rattle.harvester.specs.Turned.{HasOneEvent}
+use Rattle.harvester.specs.TurnLooks.{AddsSome, AreOfLook, AreOfReading, AreOfTurn, AskForKey, HasGivenKey, HasReached, HasRead, IsRefused, LooksOn, TellsOrFails}
 use Rattle.harvester.specs.Turns.{answer_of}
 
 -- ---- looks one behind the other
@@ -270,6 +271,23 @@ module _ (held asking : Held) (begin : asking.begin ≡ held.begin) (input : ask
             (looked.are.asks, inl (omega (arith, looked.are.below, place), asked_of file answer reads.looks reads.are));
       }
 
+-- without a look
+pub tells_of : (answer : Turn) → HasOneEvent answer → TellsOrFails answer
+tells_of (turn.Issued parcel) one = tt
+tells_of (turn.Passed span rule) one = tt
+tells_of turn.More one = absurd one
+tells_of turn.AtEnd one = absurd one
+tells_of (turn.NewLife epoch) one = absurd one
+tells_of turn.Changed one = absurd one
+tells_of turn.EpochsOut one = absurd one
+tells_of turn.ReadFault one = absurd one
+tells_of turn.NoMemory one = absurd one
+
+pub fails_of : (result : Result Turn TurnError) → IsErr result → TellsOrFails (answer_of result)
+fails_of (Ok answer) err = absurd (let no : false ≡ true = err in cc)
+fails_of (Err error.ReadFault) err = tt
+fails_of (Err error.NoMemory) err = tt
+
 module _ (held : Held) (at : ℕ) (place : at ≡ held.position) where
   -- by a look that read, after which the tail was kept, whatever was told then
   pub looks_of_read : (answer : Turn) (numbers : Option (ℕ × ℕ)) (found : Found) → (found ≡ More) ⊎ (found ≡ End) → (before mid after : Option TailHistory) →
@@ -299,7 +317,7 @@ module _ (held : Held) (at : ℕ) (place : at ≡ held.position) where
       refused (Err error.NoMemory) err = tt
 
       either : (file : File) (looks : List Look) → (looks ≡ []) ⊎ HasReached at looks → AreOfReading held (answer_of result) file looks
-      either file looks (inl none) = subst (λ (l : List Look). AreOfReading held (answer_of result) file l) (sym none) tt
+      either file looks (inl none) = subst (λ (l : List Look). AreOfReading held (answer_of result) file l) (sym none) (fails_of result err)
       either file looks (inr is) =
           subst (λ (l : List Look). AreOfReading held (answer_of result) file l) (sym is.are)
           (is.asks, inr (omega (arith, is.reached, place), refused result err))

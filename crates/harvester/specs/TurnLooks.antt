@@ -41,6 +41,12 @@ IsRefused turn.ReadFault = Unit {0}
 IsRefused turn.NoMemory = Unit {0}
 IsRefused answer = ⊥
 
+-- or it told a span
+abbrev pub TellsOrFails : Turn → Type 0
+TellsOrFails (turn.Issued parcel) = Unit {0}
+TellsOrFails (turn.Passed span rule) = Unit {0}
+TellsOrFails answer = IsRefused answer
+
 -- one read at the place, or none where it failed or found no memory
 abbrev pub IsReadAt : Turn → ℕ → List Look → Type 0
 IsReadAt answer place [] = IsRefused answer
@@ -52,9 +58,9 @@ abbrev pub StandBehindLength : Held → File → Turn → ℕ → List Look → 
 StandBehindLength held file answer length looks =
     ((length < held.position) × AskForKey held answer file looks) ⊎ ((held.position ≤ length) × IsReadAt answer held.position looks)
 
--- of a turn that tells what was read, or reads on
+-- of a turn that reads on; one that does not tells what was read, failed, or found no memory
 abbrev pub AreOfReading : Held → Turn → File → List Look → Type 0
-AreOfReading held answer file [] = Unit {0}
+AreOfReading held answer file [] = TellsOrFails answer
 AreOfReading held answer file (look ∷ looks) = (look.question ≡ Length) × StandBehindLength held file answer look.sight.length looks
 
 -- by where the file stood as the turn began

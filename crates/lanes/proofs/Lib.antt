@@ -3,3 +3,4 @@ mod Hands
 mod Swapping
 mod Keeping
 mod Passing
+pub mod Visiting

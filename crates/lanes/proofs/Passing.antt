@@ -32,14 +32,14 @@ all_both P (x ∷ xs) ys one other = (one.0, all_both P xs ys one.1 other)
 same_is_one : (i : ℕ) → one_where (i == i) ≡ 1
 same_is_one i = ap one_where (eq-eqb i i refl)
 
-other_is_none : (i j : ℕ) → ((i ≡ j) → ⊥) → one_where (i == j) ≡ 0
+pub other_is_none : (i j : ℕ) → ((i ≡ j) → ⊥) → one_where (i == j) ≡ 0
 other_is_none i j apart = ap one_where (ne_eqb i j apart)
 
 at_most_one : (b : Bool) → one_where b ≤ 1
 at_most_one true = omega arith
 at_most_one false = omega arith
 
-turns_on : (i : ℕ) (xs ys : List Step) → turns_of i (xs ++ ys) ≡ turns_of i xs + turns_of i ys
+pub turns_on : (i : ℕ) (xs ys : List Step) → turns_of i (xs ++ ys) ≡ turns_of i xs + turns_of i ys
 turns_on i [] ys = omega arith
 turns_on i (x ∷ xs) ys = omega (arith, turns_on i xs ys)
 
@@ -118,7 +118,7 @@ on_ok_both (Err error) f p q = tt
 
 -- ---- harvesters that were not turned
 
-other_kept : {X : Type 0} (xs : List X) (j i : ℕ) (y : X) → ((i ≡ j) → ⊥) → slice_get (slice_set xs j y) i ≡ slice_get xs i
+pub other_kept : {X : Type 0} (xs : List X) (j i : ℕ) (y : X) → ((i ≡ j) → ⊥) → slice_get (slice_set xs j y) i ≡ slice_get xs i
 other_kept [] j i y apart = refl
 other_kept (x ∷ xs) zero zero y apart = absurd (apart refl)
 other_kept (x ∷ xs) zero (suc i) y apart = refl

@@ -11,3 +11,4 @@ pub mod Step
 pub mod Steps
 pub mod Tallies
 pub mod Turned
+pub mod Visiting

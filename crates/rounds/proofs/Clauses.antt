@@ -15,7 +15,7 @@ use Rattle.rounds.specs.Causes.{AnswersSteps, LanesHad, RoundCauses}
 use Rattle.rounds.specs.Crewed.{lanings}
 use Rattle.rounds.specs.Images.{AreAtRest, ImagesAreFronts}
 use Rattle.rounds.specs.KeeperTurns.{SameObjects, StillTell, begun_stored}
-use Rattle.rounds.specs.Moved.{HaveMoved, WereStill}
+use Rattle.rounds.specs.Moved.{HaveMoved, HaveVisited, WereStill}
 use Rattle.rounds.specs.Placed.{IsPlacedAfter}
 use Rattle.rounds.specs.RoundKeeps.{RoundKeeps}
 use Rattle.rounds.specs.Rounds.{IsReady, KeeperHad, KeeperRested, Rounds}
@@ -28,7 +28,7 @@ use Rattle.rounds.specs.declared.storing.Storing.{Storing}
 use Rattle.rounds.proofs.Causes.{a_faults_ran, answers_steps, b_faults_ran, rose_ran, wires_stay}
 use Rattle.rounds.proofs.KeeperSteps.{same_by}
 use Rattle.rounds.proofs.Images.{images_are_fronts, kept_still, rested_images, rested_kept}
-use Rattle.rounds.proofs.Moved.{answer_moved, bare_answer, carriers_moved, carriers_still, lanes_moved, lanes_still, storing_moved, storing_still}
+use Rattle.rounds.proofs.Moved.{answer_moved, bare_answer, carriers_moved, carriers_still, lanes_moved, lanes_still, lanes_visited, storing_moved, storing_still}
 use Rattle.rounds.proofs.Placing.{booked_met, carriers_stepped, lanes_stepped, placed_met}
 use Rattle.rounds.proofs.Kept.{collects_ran, collects_same, in_full_by, stores_ran, tells_ran, tells_same}
 use Rattle.rounds.proofs.Ready.{able_still, ready_still, stored_disk, stored_memory}
@@ -126,6 +126,13 @@ module _ {T W L D : Type 0} (words : Words T W L D) (queue : BoundedQueue) (desk
             (λ carriers. inr (inl (carriers_moved words.links words.wires desk.capacity when.now old.carriers.items mid.carriers.items rounds.ran.others.carriers carriers)))
             (one_true (mid.storing.stored.moved || some_lane_moved (lanings mid.lanes.items)) (some_carrier_moved mid.carriers.items) (sym (moved_is old new round rounds) ∙ is));
       }
+
+  have_visited : (old new : Crewing T W L D) (round : Round) → Rounds words queue desk when old new round → HaveVisited words queue desk when old new
+  have_visited old new round rounds = record {
+    mid = rounds.mid;
+    met = record { lanes = rounds.meets.met.lanes_same; carriers = rounds.meets.met.carriers_same; storing = rounds.meets.storing };
+    lanes = lanes_visited words.tails queue.capacity desk.capacity when (lanings old.lanes.items) (lanings rounds.mid.lanes.items) rounds.ran.others.lanes;
+  }
 
   -- ---- images are prefixes
 
@@ -257,6 +264,7 @@ module _ {T W L D : Type 0} (words : Words T W L D) (queue : BoundedQueue) (desk
     placed = λ told booked. placed_after old new round told rounds ready booked;
     still = λ is. were_still old new round rounds is;
     moved = λ is. have_moved old new round rounds is;
+    visited = have_visited old new round rounds;
     images = λ kept orderly. images old new round rounds kept orderly;
     at_rest = λ memory disk kept. areas_kept old new round rounds memory disk kept;
     collects = subst (λ (s : Storing D). Collects old.storing.keeper.now s.keeper.now) (sym rounds.meets.storing) (collects_then old rounds.mid _ rounds.ran.keeper);

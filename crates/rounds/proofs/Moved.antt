@@ -12,13 +12,14 @@ use Rattle.lanes.specs.Step.{Step, tallied}
 use Rattle.lanes.specs.Tallies.{begun_tally, tally_with}
 use Rattle.lanes.specs.declared.run.When.{When}
 use Rattle.lanes.specs.declared.tally.Tally.{Tally}
+use Rattle.lanes.proofs.Visiting.{are_visited}
 use Rattle.wire_base.specs.declared.numbers.Moment.{Moment}
 use Rattle.wire_base.specs.declared.numbers.Slot.{Slot}
 use Rattle.rounds.specs.Answer.{of_stored, round_of, some_carrier_moved, some_lane_moved, with_carried, with_carriers, with_lanes, with_tally}
 use Rattle.rounds.specs.CarrierTurns.{IsWork, begun_carried, carried_of, carried_with}
 use Rattle.rounds.specs.Crewed.{bare_carriers, bare_lanes}
 use Rattle.rounds.specs.KeeperTurns.{IsKeeping, begun_stored, stored_of, stored_with}
-use Rattle.rounds.specs.Moved.{CarrierMoved, CarrierWasStill, IsMoving, LaneMoved, LaneWasStill, StoringMoved, StoringWasStill}
+use Rattle.rounds.specs.Moved.{CarrierMoved, CarrierWasStill, IsMoving, LaneMoved, LaneVisited, LaneWasStill, StoringMoved, StoringWasStill}
 use Rattle.rounds.specs.Pairs.{Pairs, SomeOf, SomePair}
 use Rattle.rounds.specs.Running.{CarrierHasRun, LaneHasRun, StoringHasRun}
 use Rattle.rounds.specs.Words.{DiskWords, LinkWords, TailWords, WireWords}
@@ -174,6 +175,16 @@ module _ {T : Type 0} (tails : TailWords T) (queue box : ℕ) (when : When) wher
   lanes_moved [] (y ∷ ys) ran is = absurd ran
   lanes_moved (x ∷ xs) [] ran is = absurd ran
   lanes_moved (x ∷ xs) (y ∷ ys) ran is = ⊎_elim (λ one. inl (lane_moved x y ran.0 one)) (λ others. inr (lanes_moved xs ys ran.1 others)) (one_true y.tally.moved (some_lane_moved ys) is)
+
+  lane_visited : (old new : Laning T) → LaneHasRun tails queue box when old new → LaneVisited tails queue box when old new
+  unfolding LaneHasRun
+  lane_visited old new runs = record { runs = runs; each = λ none. are_visited tails.numbers tails.told tails.faults queue box when old new runs none }
+
+  pub lanes_visited : (xs ys : List (Laning T)) → Pairs (LaneHasRun tails queue box when) xs ys → Pairs (LaneVisited tails queue box when) xs ys
+  lanes_visited [] [] ran = tt
+  lanes_visited [] (y ∷ ys) ran = absurd ran
+  lanes_visited (x ∷ xs) [] ran = absurd ran
+  lanes_visited (x ∷ xs) (y ∷ ys) ran = (lane_visited x y ran.0, lanes_visited xs ys ran.1)
 
 module _ {W L : Type 0} (links : LinkWords L) (wires : WireWords W) (box : ℕ) (now : Moment) where
   carrier_still : (old new : Carrier W L) → CarrierHasRun links wires box now old new → new.carried.moved ≡ false → CarrierWasStill links wires box now old new

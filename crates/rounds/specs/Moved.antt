@@ -9,6 +9,8 @@ use Rattle.keeper.specs.declared.turn.KeeperTurn.{KeeperTurn}
 use Rattle.lanes.specs.Laning.{Laning}
 use Rattle.lanes.specs.Running.{LaneRuns}
 use Rattle.lanes.specs.Step.{Step}
+use Rattle.lanes.specs.Visiting.{AreVisited}
+use Rattle.lanes.specs.declared.given.Given.TheVariants.{Nothing}
 use Rattle.lanes.specs.declared.run.When.{When}
 use Rattle.mem_queue.specs.BoundedQueue.{BoundedQueue}
 use Rattle.settle_box.specs.BoundedBox.{BoundedBox}
@@ -46,6 +48,11 @@ pub record LaneWasStill {T : Type 0} (tails : TailWords T) (queue box : ℕ) (wh
   pub runs : LaneRuns tails.numbers tails.told tails.faults queue box when old new
   pub not_moved : runs.moved ≡ false
   pub each : AllByRecursion (λ (s : Step). ¬ (IsMoving s.turn)) runs.keeps.steps
+
+-- where it holds nothing then, none of its files was passed over
+pub record LaneVisited {T : Type 0} (tails : TailWords T) (queue box : ℕ) (when : When) (old new : Laning T) : Type 0 where
+  pub runs : LaneRuns tails.numbers tails.told tails.faults queue box when old new
+  pub each : new.held ≡ Nothing → AreVisited tails.told runs.keeps.steps old.harvesters new.harvesters
 
 -- ---- workers
 
@@ -92,3 +99,8 @@ pub record WereStill {T W L D : Type 0} (words : Words T W L D) (queue : Bounded
   pub lanes : Pairs (LaneWasStill words.tails queue.capacity desk.capacity when) (lanings old.lanes.items) (lanings mid.lanes.items)
   pub carriers : Pairs (CarrierWasStill words.links words.wires desk.capacity when.now) old.carriers.items mid.carriers.items
   pub storing : StoringWasStill words.disks old.storing mid.storing
+
+pub record HaveVisited {T W L D : Type 0} (words : Words T W L D) (queue : BoundedQueue) (desk : BoundedBox) (when : When) (old new : Crewing T W L D) : Type 0 where
+  pub mid : Crewing T W L D
+  pub met : IsAsMet mid new
+  pub lanes : Pairs (LaneVisited words.tails queue.capacity desk.capacity when) (lanings old.lanes.items) (lanings mid.lanes.items)

@@ -12,7 +12,7 @@ use Rattle.rounds.specs.Crewed.{lanings}
 use Rattle.rounds.specs.Crewing.{Crewing}
 use Rattle.rounds.specs.Images.{AreAtRest, ImagesAreFronts}
 use Rattle.rounds.specs.KeeperTurns.{SameObjects, StillTell}
-use Rattle.rounds.specs.Moved.{HaveMoved, WereStill}
+use Rattle.rounds.specs.Moved.{HaveMoved, HaveVisited, WereStill}
 use Rattle.rounds.specs.Placed.{IsPlacedAfter}
 use Rattle.rounds.specs.Rounds.{IsAble, IsReady}
 use Rattle.rounds.specs.Staying.{AreAsMany, begins_of}
@@ -27,6 +27,7 @@ pub record RoundKeeps {T W L D : Type 0} (words : Words T W L D) (queue : Bounde
   -- moved means moved
   pub still : round.moved ≡ false → WereStill words queue desk when old new
   pub moved : round.moved ≡ true → HaveMoved words queue desk when old new
+  pub visited : HaveVisited words queue desk when old new
   -- images are prefixes
   pub images : AreAtRest words.disks old.storing → AreOrderly new.storing.keeper.now.tracked.notes → ImagesAreFronts words.disks old.storing new.storing
   pub at_rest : round.memory ≡ false → round.disk ≡ false → AreAtRest words.disks old.storing → AreAtRest words.disks new.storing

@@ -9,7 +9,7 @@ use Rattle.harvester.specs.Held.{Held}
 use Rattle.harvester.specs.History.{Reads, read_to}
 use Rattle.harvester.specs.TurnLooks.{AreOfLook, LooksOn}
 use Rattle.harvester.specs.Turns.{answer_of}
-use Rattle.harvester.proofs.AddedLooks.{asked_below, looks_of_read, looks_refused, no_look}
+use Rattle.harvester.proofs.AddedLooks.{asked_below, fails_of, looks_of_read, looks_refused, no_look, tells_of}
 use Rattle.harvester.proofs.Closing.{none_closes}
 use Rattle.harvester.proofs.TurnsGiven.{ends_given, few_at_end, found_as, look_asked, look_refused, looks_kept, may_be_ended, no_event, of_same, reads_of, settled_as, settled_end, settled_more, settled_refused, settled_told, some_of, turn_refused, turn_told, with_reader}
 use Rattle.harvester.proofs.harvester.Harvester.go_on.Goals as goal
@@ -158,13 +158,14 @@ returns-in-Some-2-clause-of_file g c = λ rules decides.
     (c.in_ok-turn-in-End.ensures.of_file rules (subst (λ (f : FateRules). Decides rules f) (sym c.look.ensures.rules_kept) decides))))
 
 pub returns-in_err-gather-clause-looks : goal.returns-in_err-gather-clause-looks
-returns-in_err-gather-clause-looks g c = no_look _ (λ file. tt) _ _ _ refl
+returns-in_err-gather-clause-looks g c = no_look _ (λ file. fails_of c.from_residual.result c.from_residual.ensures.0) _ _ _ refl
 
 pub returns-in_err-tell-clause-looks : goal.returns-in_err-tell-clause-looks
-returns-in_err-tell-clause-looks g c = no_look _ (λ file. tt) _ _ _ (ap g.T.Tail.told c.tell.ensures.tail_kept)
+returns-in_err-tell-clause-looks g c =
+    no_look _ (λ file. fails_of c.from_residual-in_err-tell.result c.from_residual-in_err-tell.ensures.0) _ _ _ (ap g.T.Tail.told c.tell.ensures.tail_kept)
 
 pub returns-then-branch-clause-looks : goal.returns-then-branch-clause-looks
-returns-then-branch-clause-looks g c = no_look _ (λ file. tt) _ _ _ (ap g.T.Tail.told c.tell.ensures.tail_kept)
+returns-then-branch-clause-looks g c = no_look _ (λ file. tells_of c.in_ok-tell.field-0 c.in_ok-tell.ensures.one) _ _ _ (ap g.T.Tail.told c.tell.ensures.tail_kept)
 
 pub returns-in_err-look-clause-looks : goal.returns-in_err-look-clause-looks
 returns-in_err-look-clause-looks g c =
