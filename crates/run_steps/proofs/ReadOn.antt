@@ -45,7 +45,7 @@ told_behind true met telling = absurd (untold_behind met telling)
 
 pub read_untold : (faulty failed : Bool) (met : Option Met) → IfErr (read_by (faulty || failed) met) (λ by. IsTelling by → faulty ≡ false)
 read_untold faulty failed None = tt
-read_untold faulty failed (Some met) telling = (or_parts faulty failed (told_behind (faulty || failed) met telling)).0
+read_untold faulty failed (Some met) = λ telling. (or_parts faulty failed (told_behind (faulty || failed) met telling)).0
 
 -- none did before, if none did by now
 pub none_before : (before now : Bool) → (before ≡ true → now ≡ true) → now ≡ false → before ≡ false
