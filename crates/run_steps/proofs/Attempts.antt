@@ -40,7 +40,3 @@ was_still false is = refl
 pub never_both : (moved : Bool) → moved ≡ false → not moved ≡ false → ⊥
 never_both true still is = cc still
 never_both false still is = cc is
-
-pub is_true : (once : Bool) → not once ≡ false → once ≡ true
-is_true true is = refl
-is_true false is = cc is
