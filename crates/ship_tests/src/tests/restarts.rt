@@ -1,7 +1,9 @@
 //! Worked runs over what an earlier run left, by their names.
 
 use crate::tests::wanted::{Sent, Wanted, check_left, check_number, check_text};
-use crate::tests::world::{FINGERPRINT, Later, NATIVE, Object, PLAIN, Peer, Ran, Start, run, run_over};
+use crate::tests::world::{
+    FINGERPRINT, Later, NATIVE, Object, PLAIN, Peer, Ran, Start, run, run_over,
+};
 use std::process::Abort;
 use std::sync::Wait;
 use std::test::Fail;
@@ -193,9 +195,11 @@ const ROW_OF_UNOPENED_FILE_STAYS: Restart = Restart {
 };
 
 /// That of the file in `FINGERPRINT`.
-const LONG_LINE: &[u8] = b"abcdefghbcdefghicdefghijdefghijkefghijklfghijklmghijklmnhijklmnoijklmnopjklmnopqklmnopqrlmnopqrsmnopqrstnopqrstu\n";
+const LONG_LINE: &[u8] =
+    b"abcdefghbcdefghicdefghijdefghijkefghijklfghijklmghijklmnhijklmnoijklmnopjklmnopqklmnopqrlmnopqrsmnopqrstnopqrstu\n";
 
-const OTHER_LINE: &[u8] = b"the second file, of which the first hundred and twelve bytes are this one line, and then come those of the next.\n";
+const OTHER_LINE: &[u8] =
+    b"the second file, of which the first hundred and twelve bytes are this one line, and then come those of the next.\n";
 
 /// The scan takes its fingerprint by one read. Behind that it is cut and written anew, so the second asking needs two reads, of which the
 /// last fails.
