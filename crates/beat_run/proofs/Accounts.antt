@@ -50,6 +50,7 @@ use Rattle.beat_run.specs.Skipped.{AreSkipped, all_skipped}
 use Rattle.beat_run.proofs.Causes.{named_so}
 use Rattle.beat_run.proofs.EpochsOut.{HasNoneFor}
 use Rattle.beat_run.specs.WithinLimits.{IsWithinLimits}
+use Rattle.beat_run.proofs.Numbered.{numbers_had}
 use Rattle.beat_run.proofs.PathsListed.{GoesFurther, are_skipped}
 use Rattle.beat_run.proofs.PrintedEnds.{never_reported}
 use Rattle.beat_run.proofs.ScanShown.{ScannedSome, each_some, scanned_folder}
@@ -218,11 +219,12 @@ module _ {D : Type 0} (disks : DiskWords D) (one : OneChoice) (settings : Settin
         what = early_met status;
         met_for = early_met_for status ends;
         accounted = subst (λ (o : Option FolderHistory). AccountedFor disks settings (early_run (Some history) o before later) (early_met status)) (sym scans.after_is)
-            (early_is_accounted_for disks start (scanned_folder history scans.listed scans.scanned) scans.has first.since later first.given (later_tells before later moment gives clock) outcomes a b one gave held (early_met status) (early_not_done status));
+            (early_is_accounted_for disks start (scanned_folder history scans.listed scans.scanned) scans.has first.since later first.given (later_tells before later moment gives clock) outcomes a b one gave held (early_met status) (early_not_telling status));
         cleaned = λ rest telling. absurd (early_not_telling status telling);
         reported = λ end. absurd (never_reported status ends end);
         counted = λ is_done. absurd (early_not_done status is_done);
         within = λ end. absurd (never_reported status ends end);
+        numbered = λ end. absurd (never_reported status ends end);
         full_for = full;
       }
 
@@ -242,11 +244,12 @@ module _ {D : Type 0} (disks : DiskWords D) (one : OneChoice) (settings : Settin
   still (Some history) (Some moments) status some clock ends full = record {
     what = early_met status;
     met_for = early_met_for status ends;
-    accounted = still_is_accounted_for disks settings opening history moments outcomes from_a from_b a b one gave held (early_met status) (early_not_done status);
+    accounted = still_is_accounted_for disks settings opening history moments outcomes from_a from_b a b one gave held (early_met status) (early_not_telling status);
     cleaned = λ rest telling. absurd (early_not_telling status telling);
     reported = λ end. absurd (never_reported status ends end);
     counted = λ is_done. absurd (early_not_done status is_done);
     within = λ end. absurd (never_reported status ends end);
+    numbered = λ end. absurd (never_reported status ends end);
     full_for = full;
   }
 
@@ -348,6 +351,7 @@ module _ {D : Type 0} (disks : DiskWords D) (start : Began D) (in_range : AreInR
             (subst (λ (l : List Listed). AreFollowedOrSkipped worked_so.accounted.run worked_so.accounted.account (length parted.scanned.events) l passed) (sym listed_are) (worked_so.followed_or_skipped telling)));
         counted = worked_so.counted;
         within = λ end. record { rows = start.opening; given = limits.gave; within = within_limits limits history scans goes };
+        numbered = λ end. numbers_had worked_so.accounted.run worked_so.accounted.account worked_so.accounted.followed.each;
         full_for = full;
       }
 
@@ -370,6 +374,7 @@ module _ {F W D : Type 0} (disks : DiskWords D) (source : Option (List ℕ)) (le
       reported = λ end text told. by.is.reported end text (was end text told);
       counted = by.is.counted;
       within = by.is.within;
+      numbered = by.is.numbered;
       full_for = by.is.full_for;
     };
   }
@@ -382,7 +387,7 @@ module _ {F W D : Type 0} (disks : DiskWords D) (source : Option (List ℕ)) (le
     named_or_unused = by.named_or_unused;
     supported = by.supported;
     in_range = by.in_range;
-    is = record { what = by.is.what; met_for = tt; accounted = by.is.accounted; cleaned = by.is.cleaned; reported = λ end. absurd end; counted = by.is.counted; within = λ end. absurd end; full_for = tt };
+    is = record { what = by.is.what; met_for = tt; accounted = by.is.accounted; cleaned = by.is.cleaned; reported = λ end. absurd end; counted = by.is.counted; within = λ end. absurd end; numbered = λ end. absurd end; full_for = tt };
   }
 
   -- a status alone

@@ -6,6 +6,7 @@ pub mod CrashedRuns
 pub mod Endings
 pub mod EpochsOut
 pub mod FirstLacks
+pub mod Numbered
 pub mod PathsListed
 pub mod PrintedEnds
 pub mod Printings

@@ -28,6 +28,7 @@ use Rattle.told_scans.proofs.Members.{some_is}
 use Rattle.run_steps.proofs.WorkedAccount.{account, blank, earlier, gives_nothing, is_accounted_for, later, objects, rows_at_end, stored}
 use Rattle.run_steps.proofs.WorkedTogether.{Holding, disks}
 use Rattle.wire_base.specs.declared.row.Row.{Row}
+use Rattle.beat_run.proofs.Numbered.{numbers_had}
 use Rattle.beat_run.specs.Accounted.{AllTell, IsAccountedByNamed, IsAccountedWhereTold, IsOfRemovedFile, LeavesNoRemoved, RunLent}
 use Rattle.beat_run.specs.Printed.{StandsBehind}
 use Rattle.beat_run.specs.Scanning.{ScansParted}
@@ -221,6 +222,7 @@ module _ (one : OneChoice) where
             subst (λ (l : List ℕ). GivesRows l second []) (some_is [] first a_is) (subst (λ (l : List ℕ). GivesRows [] l []) (some_is [] second b_is) gives_nothing);
         within = is_within;
       };
+      numbered = λ end. numbers_had worked.run account worked.is_account.followed.each;
       full_for = tt;
     };
   }

@@ -27,7 +27,7 @@ use Rattle.beat_run.specs.Ends.{IsBehindSettings, IsReportEnd, ListsTooMany}
 use Rattle.beat_run.specs.EpochsLeft.{FindsNoEpoch}
 use Rattle.beat_run.specs.Named.{IsNamed}
 use Rattle.beat_run.specs.Printed.{IsReportOver}
-use Rattle.beat_run.specs.WithinLimits.{StaysWithinLimits}
+use Rattle.beat_run.specs.WithinLimits.{AllHaveNumbers, StaysWithinLimits}
 use Rattle.run_steps.specs.declared.met.Met.TheVariants as met
 
 -- what a run with this status may have met; where it was refused, found no memory, or a disk or the sink failed, anything
@@ -82,6 +82,7 @@ pub record IsAccounted {D : Type 0} (disks : DiskWords D) (settings : Settings) 
   pub reported : IsReportEnd status → (text : List ℕ) → tells text → IsReportOver objects accounted.run accounted.account status text
   pub counted : what ≡ met.Done → AreAllCounted accounted.account
   pub within : IsReportEnd status → IfSome objects.before.folder (StaysWithinLimits disks settings objects)
+  pub numbered : IsReportEnd status → AllHaveNumbers accounted.run accounted.account
   pub full_for : IsFullFor disks settings objects status
 
 -- folder and clock tell before it, and each wire behind it

@@ -1,10 +1,16 @@
 -- What a run that tells a report kept within (this project's profile): each file that it listed has the native numbers that its input asks
 -- for; those that are followed, one for each key, are with the rows that its areas gave no more than there may be; and each of them could
 -- be started, in an epoch that there is.
-use Rattle.std.specs.Prelude.{◌≡◌, ◌≤◌, List, ◌++◌, length, Option, Some}
+use Rattle.std.specs.Prelude.{◌≡◌, ◌≤◌, ℕ, List, ◌++◌, length, slice_get, IsSome, Option, Some}
+use Rattle.std.specs.List.{AllByRecursion}
+use Rattle.event_tree.specs.declared.input_rule.IdentityRule.TheVariants.{Native}
 use Rattle.event_tree.specs.declared.input_rule.InputRule.{InputRule}
 use Rattle.event_tree.specs.declared.settings.Settings.{Settings}
-use Rattle.outside.specs.Folders.{Event, FolderHistory}
+use Rattle.kept_rows.specs.Account.{FollowedTail, SlotAccount}
+use Rattle.kept_rows.specs.Run.{Run}
+use Rattle.outside.specs.Files.{File}
+use Rattle.outside.specs.Folders.{Event, FolderHistory, Opened}
+use Rattle.outside.specs.declared.history.Sight.{Sight}
 use Rattle.prospect.specs.declared.listed.Listed.{Listed}
 use Rattle.rounds.specs.Words.{DiskWords}
 use Rattle.run_steps.specs.AccountedFor.{RunObjects}
@@ -29,3 +35,14 @@ pub record StaysWithinLimits {D : Type 0} (disks : DiskWords D) (settings : Sett
   pub rows : List Row
   pub given : GiveTheRows disks objects.before.a objects.before.b rows
   pub within : IsWithinLimits settings.inputs rows told objects.after.folder
+
+-- ---- as files are opened
+
+-- a file that a tail of this input follows has native numbers, where the input knows its files by these
+abbrev pub HasItsNumbers : Run → ℕ → FollowedTail → Type 0
+HasItsNumbers run input tail = (rule : InputRule) (path : List ℕ) (number : ℕ) (begun : Sight) (file : File) → slice_get run.settings.inputs input ≡ Some rule →
+    rule.file_identity ≡ Native → slice_get run.trace.events tail.opening ≡ Some (Opened path number begun) → slice_get run.trace.files number ≡ Some file → IsSome file.numbers
+
+-- so has each file that the account follows
+abbrev pub AllHaveNumbers : Run → List SlotAccount → Type 0
+AllHaveNumbers run account = AllByRecursion (λ one. AllByRecursion (HasItsNumbers run one.following.input) one.following.tails) account

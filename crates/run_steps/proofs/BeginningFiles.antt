@@ -13,7 +13,7 @@ use Rattle.file_identity.specs.AskedAgain.{GivesKey}
 use Rattle.file_identity.specs.declared.identity.Identity.{Identity}
 use Rattle.file_identity.specs.declared.identity.Identity.TheVariants.{Key}
 use Rattle.file_identity.specs.declared.identity_error.IdentityError.{IdentityError}
-use Rattle.harvester.specs.HasTold.{HasTold}
+use Rattle.harvester.specs.HasTold.{HasTold, begin_of}
 use Rattle.harvester.specs.History as history
 use Rattle.harvester.specs.Standing.{stage_of}
 use Rattle.harvester.specs.declared.harvester.Harvester.{Harvester}
@@ -40,6 +40,7 @@ use Rattle.run_steps.specs.BeginsAll.{file_at}
 use Rattle.run_steps.specs.Begun.{noted_begin}
 use Rattle.run_steps.specs.FolderSeen.{FolderSeen}
 use Rattle.run_steps.specs.Releasing.{closing_of, with_events}
+use Rattle.run_steps.specs.ReadBehind.{ReadsBehind, ReadsWhereNoFault}
 use Rattle.run_steps.specs.RunState.{Finished, Leaving, Reading}
 use Rattle.run_steps.specs.Shown.{HasShown}
 use Rattle.run_steps.specs.SoFar.{SoFar, files_of}
@@ -47,6 +48,7 @@ use Rattle.run_steps.specs.Stands.{Further, Stands, watch_of}
 use Rattle.run_steps.specs.Telling.{TellsBegin, TellsNotes}
 use Rattle.run_steps.specs.declared.begin_error.BeginError.{BeginError}
 use Rattle.run_steps.specs.declared.begin_error.BeginError.TheVariants as error
+use Rattle.run_steps.proofs.AreRead.{asked_alone}
 use Rattle.run_steps.proofs.BegunFolder.{error_shown, none_shown, unread_shown}
 use Rattle.run_steps.proofs.BeginningOne.{Begins, IsBegunSo, at_phase, stands_at, stands_same}
 use Rattle.run_steps.proofs.BeginningSteps.{begins_next, left_after, shown_tells, stands_left}
@@ -207,6 +209,12 @@ module _ {T W L D : Type 0} (words : Words T W L D) (reads : (disk : D) → IfSo
       not_over : (harvester : Harvester T) → IsOpenedFor words.tails start.settings (file_at start.opening slot listed now) tail harvester → harvester.reader.stage ≢ stage.Over
       not_over harvester is over = let no : history.Over ≡ history.Reads = sym (ap stage_of over) ∙ is.told.held.holds.follows.stage in cc
 
+      -- and its tail was only asked for its key
+      reads_so : (harvester : Harvester T) → IsOpenedFor words.tails start.settings (file_at start.opening slot listed now) tail harvester → ReadsWhereNoFault words.tails.told words.tails.faults harvester
+      reads_so harvester is none =
+          subst (λ (t : T). IfSome (words.tails.told t) (λ told. ReadsBehind false (begin_of harvester).base told.looks)) (sym is.tail_kept)
+          (asked_alone (words.tails.told tail) has.one.asked (begin_of harvester).base has.looks_are has.reads)
+
     -- it is followed
     pub file_begun : (new : Beginning T W L) → BeginsFile words.tails start.settings (file_at start.opening slot listed now) old new → BeginsBelow (suc slot) new
     file_begun new is =
@@ -222,6 +230,7 @@ module _ {T W L D : Type 0} (words : Words T W L D) (reads : (disk : D) → IfSo
         (begins_next words reads counts start moments a b now old.folder.told old.crew old.keeper slot begins of.one (so is.mid.folder.told is.fresh is.tail opens is.keyed key key_is) new.keeper
         (subst (λ (k : Keeping). TellsNotes (noted_begin of.one.begin ∷ []) k new.keeper) is.opened.keeper tells) harvester
         (turns is.mid.folder.told is.fresh is.tail opens is.keyed key key_is harvester is.follows.opened) (not_over is.mid.folder.told is.fresh is.tail opens is.keyed key key_is harvester is.follows.opened)
+        (reads_so is.mid.folder.told is.fresh is.tail opens is.keyed key key_is harvester is.follows.opened)
         (slot % length old.crew.lanes.items) new.crew
         (subst (λ (c : Crew T W L). AdmitsAt (slot % length c.lanes.items) harvester (lanings c.lanes.items) (lanings new.crew.lanes.items)) is.opened.crew taken.admits)
         (subst (λ (c : Crew T W L). new.crew ≡ record c { lanes = new.crew.lanes }) is.opened.crew taken.others) is.mid.folder.told

@@ -34,6 +34,7 @@ use Rattle.run_steps.specs.RunState.{Finished, Phase, Reading, RunState}
 use Rattle.run_steps.specs.Shown.{HasShown, IsTurnedIn}
 use Rattle.run_steps.specs.SoFar.{Left, SoFar, books_of, files_in, files_of}
 use Rattle.run_steps.specs.Stands.{AreEachOnce, Books, Files, Stands}
+use Rattle.run_steps.proofs.AreRead.{none_left_read}
 use Rattle.run_steps.proofs.Admitting.{all_of, often_mapped, spans_often}
 use Rattle.accounts.proofs.Joining.{same_slot, tells_slots}
 use Rattle.run_steps.proofs.TailOpened.{opened_now}
@@ -95,6 +96,7 @@ module _ {T W L D : Type 0} (words : Words T W L D) (start : Began D) (moments :
       reading = λ is. stands.files.reading refl;
       finished = λ is some. absurd (not_finished is);
       over = over;
+      read = λ yet some. record { in_lanes = (stands.files.read tt some).in_lanes; in_left = none_left_read later so_far.left (stands.files.reading refl).none_left };
       tell = stands.files.tell;
       left_tell = stands.files.left_tell;
       shown = has;

@@ -20,6 +20,15 @@ module _ (before : FolderHistory) (more : List Event) where
       closing_in opening (drop (suc opening) after.events) ≡ first_of_two (closing_in opening (drop (suc opening) before.events)) (closing_in opening more)
   behind opening within = ap (closing_in opening) (drop-append-le (suc opening) before.events more (omega (arith, within))) ∙ closing_both opening (drop (suc opening) before.events) more
 
+  -- a closing stays the first one, and of one that was open the first of these is
+  pub closed_again : (opening : ℕ) (closing : Closing) → opening < length before.events → closing_in opening (drop (suc opening) before.events) ≡ Some closing →
+      closing_in opening (drop (suc opening) after.events) ≡ Some closing
+  closed_again opening closing within was = behind opening within ∙ ap (λ (o : Option Closing). first_of_two o (closing_in opening more)) was
+
+  pub closed_so : (opening : ℕ) (closing : Closing) → opening < length before.events → IsStillOpen before opening → closing_in opening more ≡ Some closing →
+      closing_in opening (drop (suc opening) after.events) ≡ Some closing
+  closed_so opening closing within still first = behind opening within ∙ ap (λ (o : Option Closing). first_of_two o (closing_in opening more)) still ∙ first
+
   -- one that was closed is so still
   pub closed_still : (opening : ℕ) (looks : List Look) → opening < length before.events → WasClosedWith before opening looks → WasClosedWith after opening looks
   closed_still opening looks within closed = record {

@@ -43,10 +43,12 @@ use Rattle.pass_sums.specs.Weight.{AsOften, weigh}
 use Rattle.wire_base.specs.declared.note.Note.{Note}
 use Rattle.run_steps.specs.Areas.{BeganAtRest, HaveHeldFronts}
 use Rattle.run_steps.specs.Began.{Began}
+use Rattle.run_steps.specs.ReadBehind.{ReadsWhereNoFault}
 use Rattle.run_steps.specs.RunState.{Finished, Reading, RunState}
 use Rattle.run_steps.specs.Shown.{HasShown}
 use Rattle.run_steps.specs.SoFar.{SoFar, files_in, files_of}
 use Rattle.run_steps.specs.Stands.{AreCounted, AreTurnedIn, HaveGiven, Stands, watch_of}
+use Rattle.run_steps.proofs.AreRead.{none_left_read}
 use Rattle.run_steps.proofs.Giving.{FirstGiven, first_given}
 use Rattle.run_steps.proofs.Grounds.{all_backed}
 
@@ -267,6 +269,10 @@ module _ {T W L D : Type 0} (words : Words T W L D) (start : Began D) (crew : Cr
         reading = λ is. record { none_left = refl; none_over = each_of_none (λ (h : Harvester T). h.reader.stage ≢ stage.Over) (lanings crew.lanes.items) none };
         finished = λ is some. absurd (let no : Reading ≡ Finished = is in cc);
         over = tt;
+        read = λ yet some. record {
+          in_lanes = each_of_none (ReadsWhereNoFault words.tails.told words.tails.faults) (lanings crew.lanes.items) none;
+          in_left = none_left_read start.shown [] refl;
+        };
         tell = λ some. each_of_none (λ (h : Harvester T). IsSome (words.tails.told h.tail)) (lanings crew.lanes.items) none;
         left_tell = λ some. tt;
         shown = has_shown;

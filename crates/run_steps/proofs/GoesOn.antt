@@ -25,7 +25,7 @@ use Rattle.run_steps.proofs.FailingRounds.{fail_by_nothing, fail_by_two}
 use Rattle.run_steps.proofs.Letting.{able_closed, many_by_some}
 use Rattle.run_steps.proofs.Onward.{onward_by_nothing, onward_by_two}
 use Rattle.run_steps.proofs.ReadersGo.{readers_go_by_nothing, readers_go_by_some, readers_go_by_two}
-use Rattle.run_steps.proofs.TailClosed.{closing_onward, leaving_onward, onward_then, same_onward}
+use Rattle.run_steps.proofs.TailsLeft.{closing_onward, leaving_onward, onward_then, same_onward}
 
 -- whatever was before
 pub none_failed_on : {W L : Type 0} (attempts : ℕ) (before after : List (Carrier W L)) (met : Option Met) → IfNone met (NoneFailed attempts after) →

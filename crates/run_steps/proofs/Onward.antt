@@ -1,5 +1,5 @@
 -- The steps of a run that keep what stands of it, as the relation that their contracts name; and none, and two of them.
-use Rattle.std.proofs.Common.{◌≡◌, ◌⊎◌, ℕ, ◌≤◌, Bool, true, List, Option, None, IfSome}
+use Rattle.std.proofs.Common.{◌≡◌, ◌⊎◌, ℕ, ◌≤◌, Bool, false, true, List, Option, None, IfSome}
 use Rattle.std.specs.List.{AllByRecursion}
 use Rattle.lanes.specs.Done.{IsDone}
 use Rattle.lanes.specs.declared.run.When.{When}
@@ -21,6 +21,7 @@ use Rattle.run_steps.specs.Areas.{IsAtRest}
 use Rattle.run_steps.specs.MetBy.{IsOverOf, SomeHarvester}
 use Rattle.run_steps.specs.Onward.{Onward}
 use Rattle.run_steps.specs.RunState.{Finished, OutOfEpochs, Phase, Reading, RunState, within}
+use Rattle.run_steps.specs.Stands.{ReadsYet}
 use Rattle.run_steps.proofs.Rounding.{stands_on}
 use Rattle.run_steps.proofs.Settling.{stands_settled}
 
@@ -44,10 +45,11 @@ module _ {T W L D : Type 0} (words : Words T W L D) where
         ((phase ≡ Reading) ⊎ (phase ≡ Finished) → from ≡ Reading) →
         ((phase ≡ Reading) ⊎ (phase ≡ Finished) → round.epochs ≡ None) → (phase ≡ Finished → (when.last ≡ true) × AllByRecursion IsDone (lanings new.lanes.items)) →
         ((slot : Slot) → phase ≡ OutOfEpochs slot → SomeHarvester (IsOverOf slot) (lanings new.lanes.items)) →
+        (ReadsYet phase → (phase ≡ Reading) × (round.memory ≡ false)) →
         Onward words when.last (within shown moments old before from) (within shown later new after phase)
     unfolding Onward
-    round_onward when moments later from phase gives ran keeps read none_out done out start so_far same stands began =
-        stands_on words queue desk when (crewing old before) (crewing new after) round ran keeps from start so_far shown moments later stands gives same phase read none_out done out reads counts began
+    round_onward when moments later from phase gives ran keeps read none_out done out yet start so_far same stands began =
+        stands_on words queue desk when (crewing old before) (crewing new after) round ran keeps from start so_far shown moments later stands gives same phase read none_out done out yet reads counts began
 
     pub settle_onward : (once : Bool) (moments : Option (List ℕ)) (phase : Phase) → SettlingKeeps words queue desk (crewing old before) (crewing new after) round →
         Onward words once (within shown moments old before phase) (within shown moments new after phase)

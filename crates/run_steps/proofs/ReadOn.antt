@@ -20,7 +20,7 @@ use Rattle.run_steps.specs.declared.context.Context.{Context}
 use Rattle.run_steps.specs.declared.context.System.{System}
 use Rattle.run_steps.specs.declared.met.Met.{Met}
 use Rattle.run_steps.specs.declared.met.Met.TheVariants.{DiskFault, Done, Epochs, FolderFault, NoMemory, NoNative, Stopped, Unreachable}
-use Rattle.run_steps.proofs.GoesOn.{goes_as, goes_by_asking, goes_by_two, goes_then_closes, goes_then_stays}
+use Rattle.run_steps.proofs.GoesOn.{goes_as, goes_by_asking, goes_by_two, goes_leaving, goes_then_closes, goes_then_stays}
 use Rattle.run_steps.proofs.MetBy.{ended_behind, ended_round, goes_on_behind, leaves_by_fault}
 use Rattle.run_steps.proofs.ReadersGo.{readers_go_by_some}
 
@@ -65,7 +65,7 @@ module _ {T W L D F K B : Type 0} (words : StepWords T W L D F K B) (context : C
     goes_none : (now late : Bool) → faulty ≡ now → failed ≡ late → Goes words context None start (stop_at (phase_after now None) crew storing system) →
         Goes words context None start (at_end (phase_reading (now || late)))
     goes_none true late is fails goes = goes_then_closes closes.closes.closed folder lanes goes closes.closes.each same
-    goes_none false true is fails goes = goes_then_closes closes.closes.closed folder lanes goes closes.closes.each same
+    goes_none false true is fails goes = goes_leaving (goes_then_closes closes.closes.closed folder lanes goes closes.closes.each same)
     goes_none false false is fails goes = goes_then_stays closes.closes.closed folder lanes goes closes.closes.each same (closes.none fails)
 
     -- it has met this

@@ -53,6 +53,7 @@ use Rattle.run_steps.specs.AccountedFor.{Absences, AccountedFor, AreImageRows, L
 use Rattle.run_steps.specs.Areas.{BeganAtRest, GaveRows, GiveTheRows, HaveHeldFronts}
 use Rattle.run_steps.specs.Began.{Began}
 use Rattle.told_scans.specs.FolderOn.{FolderGoesOn}
+use Rattle.run_steps.specs.Met.{IsTelling}
 use Rattle.run_steps.specs.RunOf.{FolderTold, run_of, scan_of, wires_behind}
 use Rattle.told_scans.specs.OnlyAsked.{HasOnlyAsked}
 use Rattle.run_steps.specs.ScannedSome.{HasScannedSome}
@@ -314,8 +315,8 @@ module _ {D : Type 0} (disks : DiskWords D) (start : Began D) (folder : FolderTo
       stored = λ left. none_begun early_run.trace.wires rows;
     }
 
-    pub early_is_accounted_for : (met : Met) → met ≢ Done → AccountedFor disks start.settings early_objects met
-    early_is_accounted_for met not_done = record {
+    pub early_is_accounted_for : (met : Met) → ¬ (IsTelling met) → AccountedFor disks start.settings early_objects met
+    early_is_accounted_for met not_telling = record {
       run = early_run;
       by_settings = refl;
       account = [];
@@ -337,6 +338,8 @@ module _ {D : Type 0} (disks : DiskWords D) (start : Began D) (folder : FolderTo
       images = λ at_rest. images_hold one early_run [] disks early_objects at_rest start.opening gave [] (areas at_rest) (image_rows LostInImage (ordered_at_rest disks start.a start.b start.opening at_rest gave));
       together = λ at_rest. together_hold one early_run [] disks early_objects at_rest start.opening gave [] (areas at_rest) (image_rows LostInImage (ordered_at_rest disks start.a start.b start.opening at_rest gave));
       drained = λ at_rest is_done. absurd (not_done is_done);
+      taken_up = λ telling. absurd (not_telling telling);
+      read = λ stopped. tt;
     }
 
 -- ---- a run that made no scan
@@ -401,8 +404,8 @@ module _ {D : Type 0} (disks : DiskWords D) (settings : Settings) (opening : Lis
       stored = λ left. none_begun still_run.trace.wires rows;
     }
 
-    pub still_is_accounted_for : (met : Met) → met ≢ Done → AccountedFor disks settings still_objects met
-    still_is_accounted_for met not_done = record {
+    pub still_is_accounted_for : (met : Met) → ¬ (IsTelling met) → AccountedFor disks settings still_objects met
+    still_is_accounted_for met not_telling = record {
       run = still_run;
       by_settings = refl;
       account = [];
@@ -424,4 +427,6 @@ module _ {D : Type 0} (disks : DiskWords D) (settings : Settings) (opening : Lis
       images = λ at_rest. images_hold one still_run [] disks still_objects at_rest opening gave [] (areas at_rest) (still_image_rows LostInImage (ordered_at_rest disks from_a from_b opening at_rest gave));
       together = λ at_rest. together_hold one still_run [] disks still_objects at_rest opening gave [] (areas at_rest) (still_image_rows LostInImage (ordered_at_rest disks from_a from_b opening at_rest gave));
       drained = λ at_rest is_done. absurd (not_done is_done);
+      taken_up = λ telling. absurd (not_telling telling);
+      read = λ stopped. tt;
     }

@@ -45,6 +45,7 @@ use Rattle.run_steps.specs.Telling.{moment_noted}
 use Rattle.run_steps.specs.Began.{Began}
 use Rattle.run_steps.specs.BeginFor.{row_of}
 use Rattle.run_steps.specs.Begun.{AreSlotsFrom, IsKeyed, IsOpenedAsListed}
+use Rattle.run_steps.specs.ReadBehind.{ReadsBehind}
 use Rattle.run_steps.specs.Releasing.{HasNoHarvesters}
 use Rattle.run_steps.specs.RunOf.{FolderTold, run_of, scan_of, told_scan}
 use Rattle.run_steps.specs.RunState.{RunState}
@@ -52,7 +53,7 @@ use Rattle.run_steps.specs.Scanned.{HasScanned}
 use Rattle.told_scans.specs.OnlyAsked.{WasClosedWith, WasOnlyAsked}
 use Rattle.run_steps.specs.Shown.{HasDone, HasShown, WasOpenedSince, openings_of}
 use Rattle.run_steps.specs.SoFar.{Left, SoFar, files_in, files_of}
-use Rattle.run_steps.specs.Stands.{AreTurnedIn, IsLeftSo, Stands, watch_of}
+use Rattle.run_steps.specs.Stands.{AreTurnedIn, IsLeftRead, IsLeftSo, ReadsYet, Stands, watch_of}
 use Rattle.told_scans.proofs.TriedAskings.{distinct_both, openings_asked}
 use Rattle.told_scans.proofs.Members.{each_of}
 use Rattle.prospect.proofs.Doubled.{keys_apart as files_keys_apart}
@@ -209,21 +210,53 @@ module _ {T W L D : Type 0} (words : Words T W L D) (start : Began D) (state : R
     left_there : Contains (map (λ (l : Left). l.turned) so_far.left) file.turned
     left_there = subst (λ (l : List Turned). Contains l file.turned) files_are is_joined.among
 
+    -- what was told of it then is of this file
+    told_of : (item : Left) → IsLeftSo watch so_far.opened so_far.moments item → item.turned ≡ file.turned → IsToldFile watch one so_far.moments file.turned item.told
+    told_of item so turned_is =
+        let same_number : slot_number so.file ≡ slot_number one =
+        sym (ap (λ s. s.0) so.is_told.slot) ∙ ap (λ (t : Turned). t.slot.0) turned_is ∙ ap (λ s. s.0) is_joined.slot in
+        let same : so.file ≡ one =
+        same_item slot_number so_far.opened so.file one (slots_distinct 0 so_far.opened stands.files.each_once.rise) so.among was_opened same_number in
+        subst (λ (t : Turned). IsToldFile watch one so_far.moments t item.told) turned_is
+        (subst (λ (o : Opened). IsToldFile watch o so_far.moments item.turned item.told) same so.is_told)
+
     -- what its tail told as it was closed
     pub its_tail : HasTail watch so_far.moments folder.ended one file.turned
     its_tail =
         let of = of_map (λ (l : Left). l.turned) so_far.left file.turned left_there in
         let so = member_is (IsLeftSo watch so_far.opened so_far.moments) so_far.left of.item stands.files.left of.among in
-        let same_number : slot_number so.file ≡ slot_number one =
-        sym (ap (λ s. s.0) so.is_told.slot) ∙ ap (λ (t : Turned). t.slot.0) of.is ∙ ap (λ s. s.0) is_joined.slot in
-        let same : so.file ≡ one =
-        same_item slot_number so_far.opened so.file one (slots_distinct 0 so_far.opened stands.files.each_once.rise) so.among was_opened same_number in
-        let told : IsToldFile watch one so_far.moments file.turned of.item.told =
-        subst (λ (t : Turned). IsToldFile watch one so_far.moments t of.item.told) of.is
-        (subst (λ (o : Opened). IsToldFile watch o so_far.moments of.item.turned of.item.told) same so.is_told) in
+        let told : IsToldFile watch one so_far.moments file.turned of.item.told = told_of of.item so of.is in
         has_tail watch so_far.moments folder.ended one file.turned of.item.told
         (member_is (λ (l : Left). IsSome l.told) so_far.left of.item (stands.files.left_tell tells) of.among) told
         (member_is (λ (l : Left). IfSome l.told (λ tail. WasClosedWith folder.ended tail.opening tail.looks)) so_far.left of.item done.closed of.among)
+
+    -- behind each look at its length it was read, if it counted no fault
+    pub read_behind : ReadsYet state.phase → (its_looks : List Look) → closing_in one.opening (drop (suc one.opening) folder.ended.events) ≡ Some (record { looks = its_looks; faults = 0 }) →
+        ReadsBehind false one.begin.base its_looks
+    read_behind yet its_looks closing =
+        let of = of_map (λ (l : Left). l.turned) so_far.left file.turned left_there in
+        let read = (stands.files.read yet tells).in_left in
+        let in_left : AllByRecursion (IsLeftRead folder.ended) so_far.left = subst (λ (o : Option FolderHistory). IfSome o (λ now. AllByRecursion (IsLeftRead now) so_far.left)) shown read in
+        by_told of.item.told (member_is (λ (l : Left). IsSome l.told) so_far.left of.item (stands.files.left_tell tells) of.among)
+        (told_of of.item (member_is (IsLeftSo processors so_far.opened so_far.moments) so_far.left of.item stands.files.left of.among) of.is)
+        (member_is (λ (l : Left). IfSome l.told (λ tail. WasClosedWith folder.ended tail.opening tail.looks)) so_far.left of.item done.closed of.among)
+        (subst (λ (t : Turned). IfSome of.item.told (λ tail. closing_in tail.opening (drop (suc tail.opening) folder.ended.events) ≡ Some (record { looks = tail.looks; faults = 0 }) →
+        ReadsBehind false t.history.begin.base tail.looks)) of.is (member_is (IsLeftRead folder.ended) so_far.left of.item in_left of.among))
+      where
+        by_told : (o : Option TailHistory) → IsSome o → IsToldFile processors one so_far.moments file.turned o → IfSome o (λ tail. WasClosedWith folder.ended tail.opening tail.looks) →
+            IfSome o (λ tail. closing_in tail.opening (drop (suc tail.opening) folder.ended.events) ≡ Some (record { looks = tail.looks; faults = 0 }) → ReadsBehind false file.turned.history.begin.base tail.looks) →
+            ReadsBehind false one.begin.base its_looks
+        by_told None some told was read = absurd cc
+        by_told (Some tail) some told was read =
+            let here : closing_in tail.opening (drop (suc tail.opening) folder.ended.events) ≡ Some (record { looks = its_looks; faults = 0 }) =
+            subst (λ (n : ℕ). closing_in n (drop (suc n) folder.ended.events) ≡ Some (record { looks = its_looks; faults = 0 })) (sym told.tail.opening) closing in
+            let same : tail.looks ≡ its_looks = of_closing tail.looks was.faults (sym was.closing ∙ here) in
+            subst (λ (b : Begin). ReadsBehind false b.base its_looks) told.history.begin
+            (subst (ReadsBehind false file.turned.history.begin.base) same
+            (read (here ∙ ap (λ (l : List Look). Some (record { looks = l; faults = 0 })) (sym same))))
+          where
+            of_closing : (l : List Look) (n : ℕ) → ◌≡◌ {A = Option Closing} (Some (record { looks = l; faults = n })) (Some (record { looks = its_looks; faults = 0 })) → l ≡ its_looks
+            of_closing l n is = ap (λ (o : Option Closing). option_map_or (λ (c : Closing). c.looks) o []) is
 
     closing_is : closing_in one.opening (drop (suc one.opening) folder.ended.events) ≡ Some (record { looks = its_tail.tail.looks; faults = its_tail.closed.faults })
     closing_is =

@@ -26,7 +26,7 @@ use Rattle.run_steps.specs.declared.met.Met.TheVariants.{DiskFault, Done, Epochs
 use Rattle.run_steps.proofs.CarriersGoOn.{goes_unseen}
 use Rattle.run_steps.proofs.Clocks.{clock_stays}
 use Rattle.run_steps.proofs.ReadersGo.{readers_stay}
-use Rattle.run_steps.proofs.TailClosed.{leaving_onward, onward_then}
+use Rattle.run_steps.proofs.TailsLeft.{leaving_onward, onward_then}
 
 -- no wire was touched
 links_go_on : {W L : Type 0} (wires : WireWords W) (xs ys : List (Carrier W L)) → Pairs KeepsLink xs ys → Pairs (CarrierGoesOn wires) xs ys

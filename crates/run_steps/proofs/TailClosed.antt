@@ -1,9 +1,8 @@
 -- Tails that are closed keep what stands of a run: their files are left, with what the tails told.
-use Rattle.std.proofs.Common.{◌≡◌, ◌≢◌, ◌⊎◌, inl, inr, ⊎_elim, ℕ, Bool, zero, suc, ◌+◌, ◌≤◌, ◌<◌, ◌^◌, ◌-◌, List, [], ◌∷◌, ◌++◌, Contains, length, map, append_assoc, Option, Some, None, IsSome, IfSome, refl, sym, ap, subst, ◌∙◌, arith}
+use Rattle.std.proofs.Common.{◌≡◌, ◌≢◌, ◌⊎◌, inl, inr, ⊎_elim, ℕ, Bool, zero, suc, ◌+◌, ◌≤◌, ◌<◌, ◌^◌, ◌-◌, false, drop, List, [], ◌∷◌, ◌++◌, Contains, length, map, append_assoc, Option, Some, None, IsSome, IfSome, refl, sym, ap, subst, ◌∙◌, arith}
 use Rattle.std.proofs.lemmas.List.{map-append}
 use Rattle.std.proofs.lemmas.List.Elements.{Contains-append_left}
-use Rattle.std.specs.Prelude.{Vec, slice_get}
-use Rattle.std.specs.declared.alloc.Global.{Global}
+use Rattle.std.specs.Prelude.{slice_get}
 use Rattle.std.specs.List.{AllByRecursion, flat_map}
 use Rattle.accounts.specs.Once.{AreOnce}
 use Rattle.accounts.specs.Opened.{IsTailOf, Opened}
@@ -17,9 +16,10 @@ use Rattle.accounts.proofs.Joining.{told_as_often}
 use Rattle.accounts.proofs.Lists.{each_last}
 use Rattle.accounts.proofs.Often.{often_back, often_contains, often_then, once_apart, once_more, once_none, once_often}
 use Rattle.accounts.proofs.Orderly.{member_is}
+use Rattle.harvester.specs.HasTold.{begin_of}
 use Rattle.harvester.specs.declared.harvester.Harvester.{Harvester}
 use Rattle.kept_rows.specs.Scans.{AreDistinct}
-use Rattle.lanes.specs.declared.lane.Lane.{Lane}
+use Rattle.kept_rows.specs.Trace.{closing_in}
 use Rattle.outside.specs.Folders.{Closed, Event, FolderHistory}
 use Rattle.outside.specs.Folders as folders
 use Rattle.outside.specs.Tails.{TailHistory}
@@ -33,24 +33,22 @@ use Rattle.rounds.specs.Pairs.{SomeOf}
 use Rattle.rounds.specs.Settled.{spans_told}
 use Rattle.rounds.specs.Words.{Words}
 use Rattle.rounds.specs.declared.carrier.Carrier.{Carrier}
-use Rattle.rounds.specs.declared.crew.Crew.{Crew}
-use Rattle.rounds.specs.declared.storing.Storing.{Storing}
-use Rattle.settle_box.specs.Senders.{notes}
 use Rattle.ship_core.proofs.Members.{first_there, later_there, none_there, there_cases}
+use Rattle.wire_base.specs.declared.note.Begin.{Begin}
 use Rattle.wire_base.specs.declared.note.Note.{Note}
 use Rattle.wire_base.specs.declared.numbers.Slot.{Slot}
 use Rattle.run_steps.specs.Began.{Began}
 use Rattle.run_steps.specs.Begun.{AreSlotsFrom}
 use Rattle.run_steps.specs.ClosesTail.{ClosesTail, ClosesTails, LetsGoAt, Readers}
-use Rattle.run_steps.specs.FolderSeen.{FolderSeen}
 use Rattle.run_steps.specs.LastEpoch.{HaveOneOver, IsLastOver}
-use Rattle.run_steps.specs.Onward.{Onward}
 use Rattle.run_steps.specs.Releasing.{closing_of, with_events}
-use Rattle.run_steps.specs.RunState.{Finished, Leaving, OutOfEpochs, Phase, Reading, RunState, phase_left, within}
+use Rattle.run_steps.specs.ReadBehind.{ReadsBehind, ReadsWhereNoFault}
+use Rattle.run_steps.specs.RunState.{Finished, Halted, Leaving, OutOfEpochs, Phase, Reading, within}
 use Rattle.told_scans.specs.OnlyAsked.{IsNoListing, WasClosedWith, WasOnlyAsked}
 use Rattle.run_steps.specs.Shown.{HasDone, HasShown, IsStillOpen, WasOpenedSince, openings_of}
 use Rattle.run_steps.specs.SoFar.{FilesSoFar, Left, SoFar, books_of, files_in, files_of, files_within, notes_of}
-use Rattle.run_steps.specs.Stands.{AreEachOnce, Books, BooksNow, Files, FilesNow, Further, HaveGiven, IsLeftSo, Notes, Stands, watch_of}
+use Rattle.run_steps.specs.Stands.{AreEachOnce, Books, BooksNow, Files, FilesNow, HaveGiven, IsLeftRead, IsLeftSo, ReadsYet, watch_of}
+use Rattle.run_steps.proofs.AreRead.{read_now, read_still}
 use Rattle.run_steps.proofs.Admitting.{booked_by, often_mapped, placed_by, spans_often}
 use Rattle.run_steps.proofs.Causing.{some_parted}
 use Rattle.run_steps.proofs.Closing.{closed_now, closed_still, closes_its, closes_no_other, open_still}
@@ -124,10 +122,10 @@ got_in (e ∷ events) more (suc k) event is = got_in events more k event is
 -- ---- what stands of files and books, in a phase in which tails may be closed
 
 module _ {T W L D : Type 0} (words : Words T W L D) (start : Began D) (moments : Option (List ℕ)) (carriers : List (Carrier W L)) (got : List Note) (phase : Phase) where
-  abbrev files_at : Readers T → FilesNow T
+  abbrev pub files_at : Readers T → FilesNow T
   files_at now = record { shown = now.folder.told; moments = moments; lanes = now.lanes; phase = phase }
 
-  abbrev books_at : Readers T → BooksNow T W L
+  abbrev pub books_at : Readers T → BooksNow T W L
   books_at now = record { lanes = now.lanes; carriers = carriers; got = got }
 
   pub record Reads (so_far : SoFar) (now : Readers T) : Type 0 where
@@ -216,6 +214,7 @@ module _ {T W L D : Type 0} (words : Words T W L D) (start : Began D) (moments :
       over Reading is = tt
       over Finished is = tt
       over Leaving is = tt
+      over Halted is = tt
       over (OutOfEpochs slot) is = some_left (IsLastOver slot) is
 
       -- ---- the folder
@@ -325,6 +324,35 @@ module _ {T W L D : Type 0} (words : Words T W L D) (start : Began D) (moments :
             still_open = λ other among is_turned. open_here other among is_turned tells refl;
           }
 
+        -- those that were closed before, and this one
+        left_read_in : IfSome told (λ (tail : TailHistory). faults ≡ 0 → ReadsBehind false file.history.begin.base tail.looks) → AllByRecursion (IsLeftRead now) so_far.left →
+            AllByRecursion (IsLeftRead (then_told told)) (so_far.left ++ left_one ∷ [])
+        left_read_in reads_so read =
+            each_last (IsLeftRead (then_told told)) so_far.left left_one
+            (each_member (IsLeftRead (then_told told)) so_far.left (λ (l : Left) there. still l there l.told refl (member_is (IsLeftRead now) so_far.left l read there)))
+            (now_read told refl its.is.is_told.tail reads_so)
+          where
+            still : (l : Left) → Contains so_far.left l → (o : Option TailHistory) → l.told ≡ o →
+                IfSome o (λ tail. closing_in tail.opening (drop (suc tail.opening) now.events) ≡ Some (record { looks = tail.looks; faults = 0 }) → ReadsBehind false l.turned.history.begin.base tail.looks) →
+                IfSome o (λ tail. closing_in tail.opening (drop (suc tail.opening) (then_told told).events) ≡ Some (record { looks = tail.looks; faults = 0 }) → ReadsBehind false l.turned.history.begin.base tail.looks)
+            still l there None is reads_l = tt
+            still l there (Some tail) is reads_l =
+                let of = member_is (IsLeftSo processors so_far.opened so_far.moments) so_far.left l reads.files.left there in
+                let tail_is : IsTailOf of.file tail = subst (λ (o : Option TailHistory). IfSome o (IsTailOf of.file)) is of.is_told.tail in
+                let below : tail.opening < length now.events = subst (λ (n : ℕ). n < length now.events) (sym tail_is.opening) (stands_within of.file of.among) in
+                read_still now (events told) l.turned.history.begin.base tail below
+                (subst (λ (o : Option TailHistory). IfSome o (λ tail. WasClosedWith now tail.opening tail.looks)) is
+                (member_is (λ (l : Left). IfSome l.told (λ tail. WasClosedWith now tail.opening tail.looks)) so_far.left l done.closed there)) reads_l
+
+            now_read : (o : Option TailHistory) → told ≡ o → IfSome o (IsTailOf its.is.opened) → IfSome o (λ (tail : TailHistory). faults ≡ 0 → ReadsBehind false file.history.begin.base tail.looks) →
+                IfSome o (λ tail. closing_in tail.opening (drop (suc tail.opening) (then_told told).events) ≡ Some (record { looks = tail.looks; faults = 0 }) → ReadsBehind false file.history.begin.base tail.looks)
+            now_read None is of reads_it = tt
+            now_read (Some tail) is of reads_it =
+                let below : tail.opening < length now.events = subst (λ (n : ℕ). n < length now.events) (sym of.opening) (stands_within its.is.opened its.is.of_files) in
+                let still_open : IsStillOpen now tail.opening = subst (IsStillOpen now) (sym of.opening) (done.still_open its.is.opened its.is.of_files file_turned) in
+                read_now now (events told) file.history.begin.base tail below faults still_open
+                (subst (λ (o : Option TailHistory). closing_in tail.opening (events o) ≡ Some (record { looks = tail.looks; faults = faults })) (sym is) (closes_its tail.opening tail.looks faults)) reads_it
+
       has_shown : HasShown start.shown new.folder.told (files_of after)
       has_shown = by_case start.shown old.folder.told new.folder.told closes.closes.told reads.files.shown
         where
@@ -333,6 +361,31 @@ module _ {T W L D : Type 0} (words : Words T W L D) (start : Began D) (moments :
           by_case (Some first) None then is shown = absurd shown
           by_case (Some first) (Some now) then is shown =
               subst (λ (o : Option FolderHistory). HasShown (Some first) o (files_of after)) (sym is) (has_done (words.tails.faults one.tail) first now shown told its.is.is_told.tail refl)
+
+      -- behind each look at its length it was read, if it counted no fault
+      its_read : IfSome told (λ (tail : TailHistory). words.tails.faults one.tail ≡ 0 → ReadsBehind false file.history.begin.base tail.looks) → ReadsYet phase → IsSome start.shown →
+          IfSome new.folder.told (λ folder. AllByRecursion (IsLeftRead folder) (so_far.left ++ left_one ∷ []))
+      its_read reads_so yet some = by_case start.shown old.folder.told new.folder.told closes.closes.told reads.files.shown some (reads.files.read yet some).in_left
+        where
+          by_case : (first now then : Option FolderHistory) → then ≡ with_events (closing_of told (words.tails.faults one.tail)) now → HasShown first now (files_of so_far) → IsSome first →
+              IfSome now (λ folder. AllByRecursion (IsLeftRead folder) so_far.left) → IfSome then (λ folder. AllByRecursion (IsLeftRead folder) (so_far.left ++ left_one ∷ []))
+          by_case None now then is shown some read = absurd cc
+          by_case (Some first) None then is shown some read = absurd shown
+          by_case (Some first) (Some now) then is shown some read =
+              subst (λ (o : Option FolderHistory). IfSome o (λ folder. AllByRecursion (IsLeftRead folder) (so_far.left ++ left_one ∷ []))) (sym is)
+              (left_read_in (words.tails.faults one.tail) first now shown reads_so read)
+
+      left_read : ReadsYet phase → IsSome start.shown → IfSome new.folder.told (λ folder. AllByRecursion (IsLeftRead folder) (so_far.left ++ left_one ∷ []))
+      left_read yet some = its_read (by_told told refl) yet some
+        where
+          was : ReadsWhereNoFault words.tails.told words.tails.faults one
+          was = one_was one old.lanes new.lanes go (ReadsWhereNoFault words.tails.told words.tails.faults) (reads.files.read yet some).in_lanes
+
+          by_told : (o : Option TailHistory) → told ≡ o → IfSome o (λ (tail : TailHistory). words.tails.faults one.tail ≡ 0 → ReadsBehind false file.history.begin.base tail.looks)
+          by_told None is = tt
+          by_told (Some tail) is = λ none.
+              subst (λ (b : Begin). ReadsBehind false b.base tail.looks) its.is.has_told.held.holds.follows.begin
+              (subst (λ (o : Option TailHistory). IfSome o (λ (t : TailHistory). ReadsBehind false (begin_of one).base t.looks)) is (was none))
 
       -- ---- the books
 
@@ -365,6 +418,10 @@ module _ {T W L D : Type 0} (words : Words T W L D) (start : Began D) (moments :
           reading = λ is. absurd (not_reading is);
           finished = finished;
           over = over phase reads.files.over;
+          read = λ yet some. record {
+            in_lanes = each_kept one old.lanes new.lanes go (ReadsWhereNoFault words.tails.told words.tails.faults) (reads.files.read yet some).in_lanes;
+            in_left = left_read yet some;
+          };
           tell = λ some. each_kept one old.lanes new.lanes go (λ (h : Harvester T). IsSome (words.tails.told h.tail)) (reads.files.tell some);
           left_tell = λ some. each_last (λ (l : Left). IsSome l.told) so_far.left left_one (reads.files.left_tell some)
               (one_was one old.lanes new.lanes go (λ (h : Harvester T). IsSome (words.tails.told h.tail)) (reads.files.tell some));
@@ -389,107 +446,3 @@ module _ {T W L D : Type 0} (words : Words T W L D) (start : Began D) (moments :
         let first = reads_without so_far one old closes.0 closes.1 reads in
         let rest = reads_on more (after so_far one old closes.0 closes.1 reads) closes.0 new closes.2 first in
         record { later = rest.later; reads = rest.reads; same_notes = rest.same_notes }
-
--- ---- a run that reads may leave
-
-pub left_not_reading : (phase : Phase) → phase_left phase ≢ Reading
-left_not_reading Reading is = let no : Leaving ≡ Reading = is in cc
-left_not_reading Leaving is = let no : Leaving ≡ Reading = is in cc
-left_not_reading Finished is = let no : Finished ≡ Reading = is in cc
-left_not_reading (OutOfEpochs slot) is = let no : OutOfEpochs slot ≡ Reading = is in cc
-
-module _ {T W L D : Type 0} (words : Words T W L D) where
-  files_left : (start : Began D) (now : FilesNow T) (so_far : FilesSoFar) → Files words.tails start now so_far → Files words.tails start (record now { phase = phase_left now.phase }) so_far
-  files_left start now so_far files = record {
-    opened = files.opened;
-    keyed = files.keyed;
-    each_once = files.each_once;
-    turned = files.turned;
-    left = files.left;
-    reading = λ is. absurd (left_not_reading now.phase is);
-    finished = λ is some. finished now.phase refl is some;
-    over = over now.phase files.over;
-    tell = files.tell;
-    left_tell = files.left_tell;
-    shown = files.shown;
-    given = files.given;
-  }
-    where
-      finished : (phase : Phase) → now.phase ≡ phase → phase_left phase ≡ Finished → IsSome start.shown → AllByRecursion (λ (t : Turned). IsReadThrough t.history) (files_within so_far)
-      finished Reading was is some = absurd (let no : Leaving ≡ Finished = is in cc)
-      finished Leaving was is some = absurd (let no : Leaving ≡ Finished = is in cc)
-      finished Finished was is some = files.finished was some
-      finished (OutOfEpochs slot) was is some = absurd (let no : OutOfEpochs slot ≡ Finished = is in cc)
-
-      over : (phase : Phase) → HaveOneOver phase (files_within so_far) → HaveOneOver (phase_left phase) (files_within so_far)
-      over Reading is = tt
-      over Finished is = tt
-      over Leaving is = tt
-      over (OutOfEpochs slot) is = is
-
-  -- whatever the areas hold
-  abbrev pub GoesOnStanding : RunState T W L D → RunState T W L D → Type 0
-  GoesOnStanding before after = (start : Began D) (so_far : SoFar) → Stands words start before so_far → Further words start after
-
-  pub onward_then : (once : Bool) (first mid last : RunState T W L D) → Onward words once first mid → GoesOnStanding mid last → Onward words once first last
-  unfolding Onward
-  onward_then once first mid last one then start so_far same stands began = let further = one start so_far same stands began in then start further.so_far further.stands
-
-  -- whatever it was
-  pub leaving_onward : (shown : Option FolderHistory) (moments : Option (List ℕ)) (crew : Crew T W L) (storing : Storing D) (phase : Phase) →
-      GoesOnStanding (within shown moments crew storing phase) (within shown moments crew storing Leaving)
-  leaving_onward shown moments crew storing phase start so_far stands = record {
-    so_far = so_far;
-    stands = record {
-      files = record {
-        opened = stands.files.opened;
-        keyed = stands.files.keyed;
-        each_once = stands.files.each_once;
-        turned = stands.files.turned;
-        left = stands.files.left;
-        reading = λ is. absurd (let no : Leaving ≡ Reading = is in cc);
-        finished = λ is some. absurd (let no : Leaving ≡ Finished = is in cc);
-        over = tt;
-        tell = stands.files.tell;
-        left_tell = stands.files.left_tell;
-        shown = stands.files.shown;
-        given = stands.files.given;
-      };
-      books = stands.books;
-      notes = stands.notes;
-      areas = stands.areas;
-    };
-  }
-
-  -- lanes that show the same, and a folder that does
-  pub same_onward : (old new : FolderSeen) (moments : Option (List ℕ)) (crew : Crew T W L) (lanes : Vec (Lane T) Global) (storing : Storing D) (phase : Phase) →
-      ◌≡◌ {A = Readers T} (record { folder = new; lanes = lanings lanes.items }) (record { folder = old; lanes = lanings crew.lanes.items }) →
-      GoesOnStanding (within old.told moments crew storing phase) (within new.told moments (record crew { lanes = lanes }) storing phase)
-  same_onward old new moments crew lanes storing phase same start so_far stands = record {
-    so_far = so_far;
-    stands = record {
-      files = subst (λ (now : Readers T). Files words.tails start (files_at words start moments crew.carriers.items (notes storing.keeper.now.pass.got) phase now) (files_of so_far)) (sym same) stands.files;
-      books = subst (λ (now : Readers T). Books words.links words.wires start.heard (books_at words start moments crew.carriers.items (notes storing.keeper.now.pass.got) phase now) (books_of so_far)) (sym same) stands.books;
-      notes = stands.notes;
-      areas = stands.areas;
-    };
-  }
-
-  -- tails of its were closed
-  pub closing_onward : (closed : List (Harvester T)) (old new : FolderSeen) (moments : Option (List ℕ)) (crew : Crew T W L) (lanes : Vec (Lane T) Global) (storing : Storing D) (phase : Phase) →
-      ClosesTails words.tails closed (record { folder = old; lanes = lanings crew.lanes.items }) (record { folder = new; lanes = lanings lanes.items }) →
-      GoesOnStanding (within old.told moments crew storing phase) (within new.told moments (record crew { lanes = lanes }) storing (phase_left phase))
-  closing_onward closed old new moments crew lanes storing phase closes start so_far stands =
-      let before : Readers T = record { folder = old; lanes = lanings crew.lanes.items } in
-      let after : Readers T = record { folder = new; lanes = lanings lanes.items } in
-      let on = reads_on words start moments crew.carriers.items (notes storing.keeper.now.pass.got) (phase_left phase) (left_not_reading phase) closed so_far before after closes
-      (record { files = files_left start (files_at words start moments crew.carriers.items (notes storing.keeper.now.pass.got) phase before) (files_of so_far) stands.files; books = stands.books }) in
-      record {
-        so_far = on.later;
-        stands = record {
-          files = on.reads.files;
-          books = on.reads.books;
-          notes = subst (Notes start storing.keeper.now) (sym on.same_notes) stands.notes;
-          areas = stands.areas;
-        };
-      }

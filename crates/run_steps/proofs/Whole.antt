@@ -30,7 +30,7 @@ use Rattle.run_steps.specs.MetBy.{HasFaults, HasMetFault, IsEndedBy, IsMetBy, Is
 use Rattle.run_steps.specs.Onward.{Onward}
 use Rattle.run_steps.specs.Releasing.{HasNoHarvesters}
 use Rattle.run_steps.specs.RunEnds.{HasEnded}
-use Rattle.run_steps.specs.RunState.{Finished, Phase, phase_left, within, OutOfEpochs}
+use Rattle.run_steps.specs.RunState.{Finished, Halted, Phase, phase_left, within, OutOfEpochs}
 use Rattle.run_steps.specs.Settling.{IsMetByStoring, Written}
 use Rattle.run_steps.specs.SoFar.{SoFar}
 use Rattle.run_steps.specs.Stands.{Further, Stands}
@@ -63,6 +63,10 @@ pub epochs_before : {D : Type 0} (disks : DiskWords D) (written : Written D) (me
 epochs_before disks written met now slot (inl same) is = sym same ∙ is
 epochs_before disks written met now slot (inr by) is = absurd (subst (IsMetByStoring disks written) is by)
 
+pub stopped_before : {D : Type 0} (disks : DiskWords D) (written : Written D) (met now : Met) → (now ≡ met) ⊎ IsMetByStoring disks written now → now ≡ Stopped → met ≡ Stopped
+stopped_before disks written met now (inl same) is = sym same ∙ is
+stopped_before disks written met now (inr by) is = absurd (subst (IsMetByStoring disks written) is by)
+
 -- what the last steps met leaves none to be made
 pub left_still : {D : Type 0} (disks : DiskWords D) (written : Written D) (met now : Met) → (now ≡ met) ⊎ IsMetByStoring disks written now → AreLeft now → AreLeft met
 left_still disks written met now (inl same) left = subst AreLeft same left
@@ -86,6 +90,11 @@ not_epochs begin.FolderFault slot is = let no : FolderFault ≡ Epochs slot = is
 not_epochs begin.NoMemory slot is = let no : NoMemory ≡ Epochs slot = is in cc
 not_epochs (begin.NoNative other) slot is = let no : NoNative other ≡ Epochs slot = is in cc
 
+not_stopped_so : (error : BeginError) → met_of error ≡ Stopped → ⊥
+not_stopped_so begin.FolderFault is = let no : FolderFault ≡ Stopped = is in cc
+not_stopped_so begin.NoMemory is = let no : NoMemory ≡ Stopped = is in cc
+not_stopped_so (begin.NoNative slot) is = let no : NoNative slot ≡ Stopped = is in cc
+
 ends_untold : (error : BeginError) → ¬ (IsTelling (met_of error))
 ends_untold begin.FolderFault telling = telling
 ends_untold begin.NoMemory telling = telling
@@ -94,6 +103,10 @@ ends_untold (begin.NoNative slot) telling = telling
 pub finished_by : (begun : Result BegunFiles BeginError) (met : Met) → IfErr begun (λ error. met ≡ met_of error) → met ≡ Done → phase_left (phase_worked begun met) ≡ Finished
 finished_by (Ok files) met first is = ap (λ (m : Met). phase_left (phase_met m)) is
 finished_by (Err error) met first is = absurd (not_done error (sym first ∙ is))
+
+pub halted_by : (begun : Result (Vec Passing Global) BeginError) (met : Met) → IfErr begun (λ error. met ≡ met_of error) → met ≡ Stopped → phase_left (phase_worked begun met) ≡ Halted
+halted_by (Ok passed) met first is = ap (λ (m : Met). phase_left (phase_met m)) is
+halted_by (Err error) met first is = absurd (not_stopped_so error (sym first ∙ is))
 
 -- nor does what the last steps met
 pub telling_before : {D : Type 0} (disks : DiskWords D) (written : Written D) (met now : Met) → (now ≡ met) ⊎ IsMetByStoring disks written now → IsTelling now → IsTelling met
@@ -140,6 +153,7 @@ module _ {T W L D : Type 0} (words : Words T W L D) (start : Began D) (begun : R
     pub done : now ≡ Done → IsDoneIn one first.keeper.now
     pub finished : now ≡ Done → phase_left (phase_worked begun met) ≡ Finished
     pub out_of_epochs : (slot : Slot) → now ≡ Epochs slot → phase_left (phase_worked begun met) ≡ OutOfEpochs slot
+    pub stopped : now ≡ Stopped → phase_left (phase_worked begun met) ≡ Halted
 
   module _ (steps : Steps) (so_far : SoFar) (same : start.once ≡ once) (stands : Stands words start (within shown moments crew storing (phase_begun begun)) so_far)
       (began : BeganAtRest words.disks start → IsAtRest words.disks storing.keeper.now storing.a.now storing.b.now) where
@@ -174,6 +188,7 @@ module _ {T W L D : Type 0} (words : Words T W L D) (start : Began D) (begun : R
         ended = steps.ended;
         finished = steps.finished;
         out_of_epochs = steps.out_of_epochs;
+        stopped = steps.stopped;
         all_settled = λ is. steps.all_settled (told_all is);
         stored = steps.stored;
       };

@@ -1,19 +1,23 @@
 -- The file of two plain lines, read once by a run over an empty registry: the whole account of the run. Its areas were at rest; area A was
 -- started, and then the file's row was stored there; whatever a crash leaves meanwhile gives rows that are kept. The premises of the account
 -- hold, and the folder is drained.
-use Rattle.std.proofs.Common.{◌≡◌, inl, inr, ℕ, ◌≤◌, Bool, cond, eqb, true, false, List, [], ◌∷◌, drop, length, codes, None, Some, refl, sym, ap, subst, ◌∙◌, arith, lit≤}
+use Rattle.std.proofs.Common.{◌≡◌, ◌⊎◌, inl, inr, ℕ, zero, suc, ◌≤◌, Bool, cond, eqb, true, false, List, [], ◌∷◌, drop, length, codes, None, Some, refl, sym, ap, subst, ◌∙◌, arith, lit≤}
 use Rattle.std.specs.Fmt.{digits}
+use Rattle.std.specs.Prelude.{slice_get}
 use Rattle.std.specs.List.{AllByRecursion}
 use Rattle.std.proofs.lemmas.List.Elements.{All-cons, All-nil}
 use Rattle.event_json.specs.Json.{escape}
+use Rattle.event_tree.specs.declared.input_rule.InputRule.{InputRule}
 use Rattle.kept_rows.proofs.Worked as worked
 use Rattle.kept_rows.specs.Account.{EpochAccount, SlotAccount, epoch_at}
-use Rattle.kept_rows.specs.Drained.{IsDrainedBySlots}
+use Rattle.kept_rows.specs.Drained.{IsDrainedBySlots, IsPassedOver}
 use Rattle.kept_rows.specs.Kept.{IsKept, IsKeptInImage, IsToldRow}
 use Rattle.kept_rows.specs.Premises.{Premises}
+use Rattle.kept_rows.specs.Scans.{IsCovered, ShowsEntry}
 use Rattle.kept_rows.specs.Stored.{IsStored, WaitsAt}
 use Rattle.outside.specs.Folders.{Closed, FolderHistory}
 use Rattle.outside.specs.Wires.{Finished}
+use Rattle.outside.specs.declared.history.Shown.{Shown}
 use Rattle.registry_frame.specs.Body.{body_bytes}
 use Rattle.registry_frame.specs.BodyOf.{IsStoredOp, IsStoredRow}
 use Rattle.registry_log.specs.Header.{first_wrong}
@@ -26,7 +30,8 @@ use Rattle.wire_base.specs.declared.row.Op.TheVariants.{Set}
 use Rattle.wire_base.specs.declared.row.Row.{Row}
 use Rattle.accounts.specs.AccountedFor.{followings_in}
 use Rattle.run_steps.specs.AccountedFor.{Absences, AccountedFor, AreImageRows, GiveImageRows, ImagesHoldKeptRows, LostInImage, LostKey, RowsBy, RunObjects, TogetherHoldKeptRows, WereAtRest, areas_of}
-use Rattle.run_steps.specs.declared.met.Met.TheVariants.{Done}
+use Rattle.run_steps.specs.declared.met.Met.TheVariants.{Done, Stopped}
+use Rattle.run_steps.specs.TakenUp.{HasTakenUp, IsTakenUp}
 use Rattle.told_scans.proofs.Members.{some_is}
 use Rattle.run_steps.proofs.RunRows.{OneChoice}
 use Rattle.run_steps.proofs.WorkedTogether.{Holding, IsAmong, beside_blank, closed, closed_area, disks, first_area}
@@ -58,6 +63,19 @@ objects = record {
 
 abbrev pub account : List SlotAccount
 account = worked.slot_account ∷ []
+
+-- ---- what it took up
+
+-- its one entry, by the slot of the file
+pub taken_up : HasTakenUp worked.run account
+taken_up = record { scan = worked.scan; first = refl; whole = worked.whole; each = by_input }
+  where
+    by_input : (other : Shown) (number : ℕ) (rule : InputRule) → ShowsEntry worked.trace worked.scan other → slice_get worked.settings.inputs number ≡ Some rule →
+        IsCovered rule.paths other.entry.path → IsPassedOver worked.run rule worked.scan other number ⊎ IsTakenUp worked.run account worked.scan other number
+    by_input other zero rule shows is covered =
+        subst (λ (s : Shown). IsPassedOver worked.run rule worked.scan s 0 ⊎ IsTakenUp worked.run account worked.scan s 0) (worked.only_entry other shows)
+        (inr (record { number = 0; one = worked.slot_account; of_account = (0, omega arith, refl); shows = worked.shows_to; tail = worked.tail; of_slot = (0, omega arith, refl) }))
+    by_input other (suc number) rule shows is covered = absurd (let q : None ≡ Some rule = is in cc)
 
 -- ---- the row that was stored
 
@@ -257,6 +275,8 @@ module _ (one : OneChoice) where
     images = λ at_rest. images;
     together = λ at_rest. together;
     drained = λ at_rest done first second rows a_is b_is gives. subst (IsDrainedBySlots worked.run account) (rows_at_end one first second rows a_is b_is gives) worked.drained_by_slots;
+    taken_up = λ telling. taken_up;
+    read = λ stopped. absurd (let no : Done ≡ Stopped = stopped in cc);
   }
 
 -- ---- what is supposed

@@ -31,13 +31,15 @@ use Rattle.wire_base.specs.declared.limits.Which.{Which}
 use Rattle.wire_base.specs.declared.row.Row.{Row}
 use Rattle.run_steps.specs.Areas.{GiveTheRows}
 use Rattle.told_scans.specs.FolderOn.{FolderGoesOn}
-use Rattle.run_steps.specs.Met.{AreLeft}
+use Rattle.run_steps.specs.Met.{AreLeft, IsTelling}
+use Rattle.run_steps.specs.ReadBehind.{HasReadBehind}
 use Rattle.run_steps.specs.RunOf.{wires_behind}
 use Rattle.run_steps.specs.WireOn.{OutcomesGoOn}
+use Rattle.run_steps.specs.TakenUp.{HasTakenUp}
 use Rattle.run_steps.specs.Together.{Areas, GiveThroughout, area_in}
 use Rattle.run_steps.specs.UnusedArea.{IsOfUnusedArea}
 use Rattle.run_steps.specs.declared.met.Met.{Met}
-use Rattle.run_steps.specs.declared.met.Met.TheVariants.{Done}
+use Rattle.run_steps.specs.declared.met.Met.TheVariants.{Done, Stopped}
 
 -- ---- the run that it is
 
@@ -183,3 +185,6 @@ pub record AccountedFor {D : Type 0} (disks : DiskWords D) (settings : Settings)
   pub together : WereAtRest disks objects → TogetherHoldKeptRows disks objects run account
   -- a run that is done drained its folder
   pub drained : WereAtRest disks objects → met ≡ Done → AreRowsBy disks objects.after (IsDrainedBySlots run account)
+  -- where it tells a report, it took up what its first scan showed; where it was stopped, each file was read behind each look at its length
+  pub taken_up : IsTelling met → HasTakenUp run account
+  pub read : met ≡ Stopped → AllByRecursion (λ one. AllByRecursion (HasReadBehind run.trace) one.following.tails) account

@@ -12,11 +12,11 @@ use Rattle.wire_base.specs.declared.numbers.Slot.{Slot}
 use Rattle.run_steps.specs.Began.{Began}
 use Rattle.run_steps.specs.CarriersEnd.{EndsCarriers}
 use Rattle.run_steps.specs.Met.{AreLeft}
-use Rattle.run_steps.specs.RunState.{Finished, OutOfEpochs, Phase, RunState}
+use Rattle.run_steps.specs.RunState.{Finished, Halted, OutOfEpochs, Phase, RunState}
 use Rattle.run_steps.specs.SoFar.{SoFar}
 use Rattle.run_steps.specs.Stands.{Stands}
 use Rattle.run_steps.specs.declared.met.Met.{Met}
-use Rattle.run_steps.specs.declared.met.Met.TheVariants.{Done, Epochs}
+use Rattle.run_steps.specs.declared.met.Met.TheVariants.{Done, Epochs, Stopped}
 
 -- all that was told is shipped or dropped, by counts that are not saturated
 pub record IsAllSettled {T : Type 0} (lanes : List (Laning T)) (keeper : Keeping) : Type 0 where
@@ -52,6 +52,7 @@ pub record Ends {T W L D : Type 0} (words : Words T W L D) (start : Began D) (en
   -- a run that is done told each file to its end, and settled all of it
   pub finished : met ≡ Done → ending.phase ≡ Finished
   pub out_of_epochs : (slot : Slot) → met ≡ Epochs slot → ending.phase ≡ OutOfEpochs slot
+  pub stopped : met ≡ Stopped → ending.phase ≡ Halted
   pub all_settled : met ≡ Done → IsAllSettled (lanings crew.lanes.items) ending.keeper
   -- where the last steps were made
   pub stored : AreLeft met → AreSettledIn crew ending.keeper

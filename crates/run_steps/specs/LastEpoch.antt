@@ -18,7 +18,7 @@ use Rattle.rounds.specs.Pairs.{SomeOf}
 use Rattle.wire_base.specs.declared.numbers.Slot.{Slot}
 use Rattle.wire_base.specs.declared.row.Row.{Row}
 use Rattle.run_steps.specs.BeginFor.{start_among}
-use Rattle.run_steps.specs.RunState.{Finished, Leaving, OutOfEpochs, Phase, Reading}
+use Rattle.run_steps.specs.RunState.{Finished, Halted, Leaving, OutOfEpochs, Phase, Reading}
 use Rattle.told_scans.specs.OnlyAsked.{WasClosedWith}
 
 -- ---- by what its turns told
@@ -34,6 +34,7 @@ abbrev pub HaveOneOver : Phase → List Turned → Type 0
 HaveOneOver Reading files = Unit {0}
 HaveOneOver Finished files = Unit {0}
 HaveOneOver Leaving files = Unit {0}
+HaveOneOver Halted files = Unit {0}
 HaveOneOver (OutOfEpochs slot) files = SomeOf (IsLastOver slot) files
 
 -- ---- by what the folder told

@@ -30,6 +30,7 @@ pub mod Onward
 pub mod Outset
 pub mod PassedOver
 pub mod Questions
+pub mod ReadBehind
 pub mod Readiness
 pub mod Registry
 pub mod RegistryErrors
@@ -47,6 +48,7 @@ pub mod SkippedFor
 pub mod SoFar
 pub mod Stands
 pub mod Starting
+pub mod TakenUp
 pub mod Telling
 pub mod Tells
 pub mod Together

@@ -16,13 +16,16 @@ pub data Phase : Type 0 where
   Leaving : Phase
   -- so it is, and the last epoch of the file of this slot is over
   OutOfEpochs : Slot → Phase
+  -- the run was stopped while it read; tails may be closed
+  Halted : Phase
 
 -- once tails are closed
 abbrev pub phase_left : Phase → Phase
-phase_left Reading = Leaving
+phase_left Reading = Halted
 phase_left Finished = Finished
 phase_left Leaving = Leaving
 phase_left (OutOfEpochs slot) = OutOfEpochs slot
+phase_left Halted = Halted
 
 pub record RunState (T W L D : Type 0) : Type 0 where
   pub shown : Option FolderHistory

@@ -1,6 +1,6 @@
 -- What a run keeps from step to step (this project's profile): what it has told of its files, where each event of it is, what the
 -- keeper noted of it, and what the areas may hold. Each step leads from a state for which this stands to another one.
-use Rattle.std.specs.Prelude.{◌≡◌, ◌≢◌, ℕ, ◌^◌, ◌-◌, ◌<◌, min, List, [], ◌++◌, Contains, Option, IsSome, count_by, length, map}
+use Rattle.std.specs.Prelude.{◌≡◌, ◌≢◌, ℕ, suc, ◌^◌, ◌-◌, ◌<◌, min, false, drop, List, [], ◌++◌, Contains, Option, IfSome, IsSome, Some, count_by, length, map}
 use Rattle.std.specs.List.{AllByRecursion, flat_map}
 use Rattle.accounts.specs.Ground.{HasGround}
 use Rattle.accounts.specs.Opened.{Opened}
@@ -13,6 +13,7 @@ use Rattle.harvester.specs.declared.stage.Stage.TheVariants.{Over}
 use Rattle.keeper.specs.Collecting.{is_dropped, is_shipped}
 use Rattle.keeper.specs.Keeping.{Keeping, held_in}
 use Rattle.keeper.specs.Storing.{Stores}
+use Rattle.kept_rows.specs.Trace.{closing_in}
 use Rattle.lanes.specs.Laning.{Laning}
 use Rattle.outside.specs.Folders.{FolderHistory}
 use Rattle.pass_sums.specs.Weight.{AsOften}
@@ -29,7 +30,8 @@ use Rattle.run_steps.specs.Began.{Began}
 use Rattle.run_steps.specs.Begun.{AreBeginNotes, AreSlotsFrom, IsKeyed, IsOpenedAsListed}
 use Rattle.run_steps.specs.HiddenRows.{AreHiddenSoFar}
 use Rattle.run_steps.specs.LastEpoch.{HaveOneOver}
-use Rattle.run_steps.specs.RunState.{Finished, Phase, Reading, RunState}
+use Rattle.run_steps.specs.ReadBehind.{ReadsBehind, ReadsWhereNoFault}
+use Rattle.run_steps.specs.RunState.{Finished, Halted, Leaving, OutOfEpochs, Phase, Reading, RunState}
 use Rattle.run_steps.specs.Shown.{HasGiven, HasShown}
 use Rattle.run_steps.specs.SoFar.{BooksSoFar, FilesSoFar, Left, NotesSoFar, SoFar, books_of, files_of, files_within, notes_of}
 
@@ -63,6 +65,24 @@ pub record AreEachOnce (opened : List Opened) (files : List Turned) : Type 0 whe
 pub record IsReading {T : Type 0} (lanes : List (Laning T)) (so_far : FilesSoFar) : Type 0 where
   pub none_left : so_far.left ≡ []
   pub none_over : AllByRecursion (λ lane. AllByRecursion (λ harvester. harvester.reader.stage ≢ Over) lane.harvesters) lanes
+
+-- the run reads on, or was stopped as it did
+abbrev pub ReadsYet : Phase → Type 0
+ReadsYet Reading = Unit {0}
+ReadsYet Halted = Unit {0}
+ReadsYet Finished = ⊥
+ReadsYet Leaving = ⊥
+ReadsYet (OutOfEpochs slot) = ⊥
+
+-- the tail was closed, and if it counted no fault then it was read behind each look at its length
+abbrev pub IsLeftRead : FolderHistory → Left → Type 0
+IsLeftRead now one = IfSome one.told (λ tail. closing_in tail.opening (drop (suc tail.opening) now.events) ≡ Some (record { looks = tail.looks; faults = 0 }) →
+    ReadsBehind false one.turned.history.begin.base tail.looks)
+
+-- so are those that are turned, and those that were closed
+pub record AreRead {T : Type 0} (tails : TailWords T) (shown : Option FolderHistory) (lanes : List (Laning T)) (left : List Left) : Type 0 where
+  pub in_lanes : AllByRecursion (λ lane. AllByRecursion (ReadsWhereNoFault tails.told tails.faults) lane.harvesters) lanes
+  pub in_left : IfSome shown (λ now. AllByRecursion (IsLeftRead now) left)
 
 -- ---- what was told of them
 
@@ -101,6 +121,7 @@ pub record Files {T D : Type 0} (tails : TailWords T) (start : Began D) (now : F
   pub reading : now.phase ≡ Reading → IsReading now.lanes so_far
   pub finished : now.phase ≡ Finished → IsSome start.shown → AllByRecursion (λ turned. IsReadThrough turned.history) (files_within so_far)
   pub over : HaveOneOver now.phase (files_within so_far)
+  pub read : ReadsYet now.phase → IsSome start.shown → AreRead tails now.shown now.lanes so_far.left
   -- where the folder tells, so do the tails
   pub tell : IsSome start.shown → AllByRecursion (TellIn tails) now.lanes
   pub left_tell : IsSome start.shown → AllByRecursion (λ (one : Left). IsSome one.told) so_far.left

@@ -11,7 +11,7 @@ use Rattle.run_steps.proofs.CarriersGoOn.{carriers_by_round}
 use Rattle.run_steps.proofs.Clocks.{clock_by_moment}
 use Rattle.run_steps.proofs.FailingRounds.{fail_by_round, none_failed_in}
 use Rattle.run_steps.proofs.GoesOn.{none_failed_on}
-use Rattle.run_steps.proofs.MetBy.{all_done_after, each_met, faults_stay, never_fault, none_out_after, reads_before, round_failed, some_out_after, stored_well}
+use Rattle.run_steps.proofs.MetBy.{all_done_after, each_met, faults_stay, never_fault, none_out_after, reads_after, reads_before, round_failed, some_out_after, stored_well}
 use Rattle.run_steps.proofs.Onward.{round_onward}
 use Rattle.run_steps.proofs.ReadersGo.{readers_stay}
 use Rattle.run_steps.proofs.reading.make_round.Goals as goal
@@ -86,7 +86,8 @@ returns-clause-goes g c faulty =
           (reads_before all queue desk when old new round c.requires.ready keeps once attempts faulty met)
           (none_out_after all queue desk when old new round c.requires.ready keeps once attempts faulty met c.met_in-met.ensures)
           (all_done_after all queue desk when old new round c.requires.ready keeps once attempts faulty met c.met_in-met.ensures)
-          (some_out_after all queue desk when old new round c.requires.ready keeps once attempts faulty met c.met_in-met.ensures);
+          (some_out_after all queue desk when old new round c.requires.ready keeps once attempts faulty met c.met_in-met.ensures)
+          (reads_after all queue desk when old new round c.requires.ready keeps once attempts faulty met c.met_in-met.ensures);
     }
 
 pub returns-clause-none_failed : goal.returns-clause-none_failed

@@ -18,7 +18,7 @@ use Rattle.run_steps.proofs.Letting.{able_closed, carriers_have_passes, lanes_ha
 use Rattle.run_steps.proofs.ReadersGo.{readers_go_by_some}
 use Rattle.run_steps.proofs.RunTails.{wires_back}
 use Rattle.run_steps.proofs.Unreached.{failed_as_met}
-use Rattle.run_steps.proofs.Whole.{all_counted, cause, done_before, done_in, epochs_before, finished_by, first_met, has_ended, left_still, out_by, telling_before}
+use Rattle.run_steps.proofs.Whole.{all_counted, cause, done_before, done_in, epochs_before, finished_by, first_met, halted_by, has_ended, left_still, out_by, stopped_before, telling_before}
 use Rattle.run_steps.proofs.working.work.Goals as goal
 
 pub settle_after-worked-requires-clause-ready : goal.settle_after-worked-requires-clause-ready
@@ -107,6 +107,8 @@ returns-clause-ends g c start so_far same stands began =
             finished = λ is. finished_by c.args.begun met (first_met all c.args.context.settings.now.output.attempts since c.args.begun met c.follow_begun-worked.ensures.met) (is_done is);
             out_of_epochs = λ slot is. out_by c.args.begun met slot (first_met all c.args.context.settings.now.output.attempts since c.args.begun met c.follow_begun-worked.ensures.met)
                 (epochs_before all.disks (record { a = first.a.now; b = first.b.now; new_a = c.settle_after-worked.new.storing.a.now; new_b = c.settle_after-worked.new.storing.b.now }) met now slot c.settle_after-worked.ensures.last.by is);
+            stopped = λ is. halted_by c.args.begun met (first_met all c.args.context.settings.now.output.attempts since c.args.begun met c.follow_begun-worked.ensures.met)
+                (stopped_before all.disks (record { a = first.a.now; b = first.b.now; new_a = c.settle_after-worked.new.storing.a.now; new_b = c.settle_after-worked.new.storing.b.now }) met now c.settle_after-worked.ensures.last.by is);
           })
           so_far same stands began,
     )

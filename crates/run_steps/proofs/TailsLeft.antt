@@ -1,0 +1,140 @@
+-- A run that reads, or has read, may leave: what stands of it stands in the phase behind that, and as all its tails are closed.
+use Rattle.std.proofs.Common.{◌≡◌, ◌≢◌, ℕ, ◌-◌, Bool, List, Option, IsSome, refl, sym, subst}
+use Rattle.std.specs.Prelude.{Vec}
+use Rattle.std.specs.declared.alloc.Global.{Global}
+use Rattle.std.specs.List.{AllByRecursion}
+use Rattle.accounts.specs.ToldFile.{IsReadThrough}
+use Rattle.accounts.specs.Turned.{Turned}
+use Rattle.harvester.specs.declared.harvester.Harvester.{Harvester}
+use Rattle.lanes.specs.declared.lane.Lane.{Lane}
+use Rattle.outside.specs.Folders.{FolderHistory}
+use Rattle.rounds.specs.Crewed.{lanings}
+use Rattle.rounds.specs.Words.{Words}
+use Rattle.rounds.specs.declared.crew.Crew.{Crew}
+use Rattle.rounds.specs.declared.storing.Storing.{Storing}
+use Rattle.settle_box.specs.Senders.{notes}
+use Rattle.run_steps.specs.Began.{Began}
+use Rattle.run_steps.specs.ClosesTail.{ClosesTails, Readers}
+use Rattle.run_steps.specs.FolderSeen.{FolderSeen}
+use Rattle.run_steps.specs.LastEpoch.{HaveOneOver}
+use Rattle.run_steps.specs.Onward.{Onward}
+use Rattle.run_steps.specs.RunState.{Finished, Halted, Leaving, OutOfEpochs, Phase, Reading, RunState, phase_left, within}
+use Rattle.run_steps.specs.SoFar.{FilesSoFar, SoFar, books_of, files_of, files_within}
+use Rattle.run_steps.specs.Stands.{Books, Files, FilesNow, Further, Notes, ReadsYet, Stands}
+use Rattle.run_steps.proofs.TailClosed.{Reads, books_at, files_at, reads_on}
+
+-- ---- a run that reads may leave
+
+pub left_not_reading : (phase : Phase) → phase_left phase ≢ Reading
+left_not_reading Reading is = let no : Halted ≡ Reading = is in cc
+left_not_reading Halted is = let no : Halted ≡ Reading = is in cc
+left_not_reading Leaving is = let no : Leaving ≡ Reading = is in cc
+left_not_reading Finished is = let no : Finished ≡ Reading = is in cc
+left_not_reading (OutOfEpochs slot) is = let no : OutOfEpochs slot ≡ Reading = is in cc
+
+module _ {T W L D : Type 0} (words : Words T W L D) where
+  files_left : (start : Began D) (now : FilesNow T) (so_far : FilesSoFar) → Files words.tails start now so_far → Files words.tails start (record now { phase = phase_left now.phase }) so_far
+  files_left start now so_far files = record {
+    opened = files.opened;
+    keyed = files.keyed;
+    each_once = files.each_once;
+    turned = files.turned;
+    left = files.left;
+    reading = λ is. absurd (left_not_reading now.phase is);
+    finished = λ is some. finished now.phase refl is some;
+    over = over now.phase files.over;
+    read = λ is some. files.read (yet now.phase is) some;
+    tell = files.tell;
+    left_tell = files.left_tell;
+    shown = files.shown;
+    given = files.given;
+  }
+    where
+      finished : (phase : Phase) → now.phase ≡ phase → phase_left phase ≡ Finished → IsSome start.shown → AllByRecursion (λ (t : Turned). IsReadThrough t.history) (files_within so_far)
+      finished Reading was is some = absurd (let no : Halted ≡ Finished = is in cc)
+      finished Halted was is some = absurd (let no : Halted ≡ Finished = is in cc)
+      finished Leaving was is some = absurd (let no : Leaving ≡ Finished = is in cc)
+      finished Finished was is some = files.finished was some
+      finished (OutOfEpochs slot) was is some = absurd (let no : OutOfEpochs slot ≡ Finished = is in cc)
+
+      over : (phase : Phase) → HaveOneOver phase (files_within so_far) → HaveOneOver (phase_left phase) (files_within so_far)
+      over Reading is = tt
+      over Finished is = tt
+      over Leaving is = tt
+      over Halted is = tt
+      over (OutOfEpochs slot) is = is
+
+      yet : (phase : Phase) → ReadsYet (phase_left phase) → ReadsYet phase
+      yet Reading is = tt
+      yet Halted is = tt
+      yet Finished is = absurd is
+      yet Leaving is = absurd is
+      yet (OutOfEpochs slot) is = absurd is
+
+  -- whatever the areas hold
+  abbrev pub GoesOnStanding : RunState T W L D → RunState T W L D → Type 0
+  GoesOnStanding before after = (start : Began D) (so_far : SoFar) → Stands words start before so_far → Further words start after
+
+  pub onward_then : (once : Bool) (first mid last : RunState T W L D) → Onward words once first mid → GoesOnStanding mid last → Onward words once first last
+  unfolding Onward
+  onward_then once first mid last one then start so_far same stands began = let further = one start so_far same stands began in then start further.so_far further.stands
+
+  -- whatever it was
+  pub leaving_onward : (shown : Option FolderHistory) (moments : Option (List ℕ)) (crew : Crew T W L) (storing : Storing D) (phase : Phase) →
+      GoesOnStanding (within shown moments crew storing phase) (within shown moments crew storing Leaving)
+  leaving_onward shown moments crew storing phase start so_far stands = record {
+    so_far = so_far;
+    stands = record {
+      files = record {
+        opened = stands.files.opened;
+        keyed = stands.files.keyed;
+        each_once = stands.files.each_once;
+        turned = stands.files.turned;
+        left = stands.files.left;
+        reading = λ is. absurd (let no : Leaving ≡ Reading = is in cc);
+        finished = λ is some. absurd (let no : Leaving ≡ Finished = is in cc);
+        over = tt;
+        read = λ yet some. absurd yet;
+        tell = stands.files.tell;
+        left_tell = stands.files.left_tell;
+        shown = stands.files.shown;
+        given = stands.files.given;
+      };
+      books = stands.books;
+      notes = stands.notes;
+      areas = stands.areas;
+    };
+  }
+
+  -- lanes that show the same, and a folder that does
+  pub same_onward : (old new : FolderSeen) (moments : Option (List ℕ)) (crew : Crew T W L) (lanes : Vec (Lane T) Global) (storing : Storing D) (phase : Phase) →
+      ◌≡◌ {A = Readers T} (record { folder = new; lanes = lanings lanes.items }) (record { folder = old; lanes = lanings crew.lanes.items }) →
+      GoesOnStanding (within old.told moments crew storing phase) (within new.told moments (record crew { lanes = lanes }) storing phase)
+  same_onward old new moments crew lanes storing phase same start so_far stands = record {
+    so_far = so_far;
+    stands = record {
+      files = subst (λ (now : Readers T). Files words.tails start (files_at words start moments crew.carriers.items (notes storing.keeper.now.pass.got) phase now) (files_of so_far)) (sym same) stands.files;
+      books = subst (λ (now : Readers T). Books words.links words.wires start.heard (books_at words start moments crew.carriers.items (notes storing.keeper.now.pass.got) phase now) (books_of so_far)) (sym same) stands.books;
+      notes = stands.notes;
+      areas = stands.areas;
+    };
+  }
+
+  -- tails of its were closed
+  pub closing_onward : (closed : List (Harvester T)) (old new : FolderSeen) (moments : Option (List ℕ)) (crew : Crew T W L) (lanes : Vec (Lane T) Global) (storing : Storing D) (phase : Phase) →
+      ClosesTails words.tails closed (record { folder = old; lanes = lanings crew.lanes.items }) (record { folder = new; lanes = lanings lanes.items }) →
+      GoesOnStanding (within old.told moments crew storing phase) (within new.told moments (record crew { lanes = lanes }) storing (phase_left phase))
+  closing_onward closed old new moments crew lanes storing phase closes start so_far stands =
+      let before : Readers T = record { folder = old; lanes = lanings crew.lanes.items } in
+      let after : Readers T = record { folder = new; lanes = lanings lanes.items } in
+      let on = reads_on words start moments crew.carriers.items (notes storing.keeper.now.pass.got) (phase_left phase) (left_not_reading phase) closed so_far before after closes
+      (record { files = files_left start (files_at words start moments crew.carriers.items (notes storing.keeper.now.pass.got) phase before) (files_of so_far) stands.files; books = stands.books }) in
+      record {
+        so_far = on.later;
+        stands = record {
+          files = on.reads.files;
+          books = on.reads.books;
+          notes = subst (Notes start storing.keeper.now) (sym on.same_notes) stands.notes;
+          areas = stands.areas;
+        };
+      }
