@@ -8,7 +8,6 @@ use Rattle.kept_rows.specs.Premises.{SlotPremises}
 use Rattle.kept_rows.specs.Run.{Run}
 use Rattle.kept_rows.specs.Telling.{AreSlotAccounts, IsSlotAccount}
 use Rattle.wire_base.specs.declared.parcel.Parcel.{Parcel}
-use Rattle.accounts.specs.ByScans.{IsByScans}
 use Rattle.accounts.specs.Filed.{Filed, HasItsSlot, IsFiled, accounts_of, following_of, turned_of}
 use Rattle.accounts.specs.FollowedFile.{AreFollowedFiles, IsFollowedFile}
 use Rattle.accounts.specs.Once.{AreOnce}

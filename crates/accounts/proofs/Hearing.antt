@@ -1,6 +1,6 @@
 -- A harvester that stands for its file stands for it still once it heard what a scan told of that: that something changed, that it was
 -- removed, or that it has another name. So do those of a lane, and nothing is given by it.
-use Rattle.std.proofs.Common.{◌≡◌, ℕ, ◌<◌, true, false, List, [], ◌++◌, Option, IfSome, IsTrue, refl, sym, ap, subst, ◌∙◌, append-nil, arith}
+use Rattle.std.proofs.Common.{◌≡◌, ℕ, ◌<◌, true, false, List, [], Option, IfSome, IsTrue, refl, sym, ap, subst, ◌∙◌, append-nil, arith}
 use Rattle.std.specs.List.{AllByRecursion, flat_map}
 use Rattle.file_looks.specs.Looks.{TellsLooks}
 use Rattle.harvester.specs.HasTold.{HasTold}

@@ -1,5 +1,5 @@
 -- The history of a file, and what its tail tells, as its harvester makes one turn, is asked to end, or is given another path.
-use Rattle.std.proofs.Common.{◌≡◌, ◌⊎◌, inl, inr, ℕ, ◌+◌, ◌<◌, Bool, false, true, ◌||◌, List, [], ◌∷◌, ◌++◌, Contains, Option, Some, None, IfSome, refl, sym, ap, subst, ◌∙◌, arith}
+use Rattle.std.proofs.Common.{◌≡◌, ◌⊎◌, inl, inr, ℕ, ◌+◌, ◌<◌, Bool, false, true, ◌||◌, List, [], ◌∷◌, ◌++◌, Contains, Option, Some, None, IfSome, refl, sym, subst, ◌∙◌, arith}
 use Rattle.std.specs.List.{AllByRecursion}
 use Rattle.file_looks.specs.Looks.{AreLooks, TellsLooks}
 use Rattle.harvester.specs.HasTold.{HasTold}
@@ -18,7 +18,6 @@ use Rattle.outside.specs.declared.history.Look.{Look}
 use Rattle.outside.specs.declared.history.Sight.{Sight}
 use Rattle.told_events.specs.Told.{ToldEvent}
 use Rattle.accounts.specs.Opened.{IsTailOf, Opened}
-use Rattle.slot_parts.specs.Tellings.{tellings_in}
 use Rattle.accounts.specs.ToldFile.{AreToldInTurn, IsHistoryOf, IsToldBy, IsToldFile, events_in}
 use Rattle.accounts.specs.Turned.{Turned}
 use Rattle.accounts.specs.Turning.{IsAtItsEnd}

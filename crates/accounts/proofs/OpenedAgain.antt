@@ -15,7 +15,7 @@ use Rattle.wire_base.specs.declared.numbers.Slot.{Slot}
 use Rattle.wire_base.specs.declared.parcel.Parcel.{Parcel}
 use Rattle.accounts.specs.Filed.{Filed, Opening, told_both, told_on, told_over, turned_in, turned_of}
 use Rattle.accounts.specs.OpenedAgain.{announced_after, announced_again, announced_over, each_turned, turned_by}
-use Rattle.accounts.specs.Turned.{Turned, announced_in, events_in, notes_in, notes_told, parcels_by, parcels_in, parcels_told, settlements_by, settlements_in, spans_in, spans_told}
+use Rattle.accounts.specs.Turned.{Turned, announced_in, events_in, notes_in, notes_told, parcels_by, parcels_in, parcels_told, settlements_by, settlements_in, spans_in}
 use Rattle.accounts.proofs.Lists.{flat_map_both, flat_map_last}
 use Rattle.accounts.proofs.Reopened.{behind_tellings, tellings_behind}
 

@@ -1,7 +1,7 @@
 -- A worked history of a file that is not read once: a turn tells its first line, a scan shows it by another path, and a turn tells its second
 -- line by that. And what is refused: an event that was told by the path before the file had it, or by one that no scan showed; a file
 -- that might be ended, though it was not removed; a harvester that rests while its file's key is asked.
-use Rattle.std.proofs.Common.{◌≡◌, ◌⊎◌, inl, inr, ℕ, ◌+◌, Bool, true, false, List, [], ◌∷◌, ◌++◌, Contains, codes, get_or, refl, sym, ap, subst, ◌∙◌, arith}
+use Rattle.std.proofs.Common.{◌≡◌, inl, inr, ℕ, ◌+◌, Bool, true, false, List, [], ◌∷◌, ◌++◌, codes, get_or, refl, sym, ap, subst, ◌∙◌, arith}
 use Rattle.std.specs.List.{AllByRecursion}
 use Rattle.harvester.specs.History.{Asks, Ended, History, Reads, opened, with_path}
 use Rattle.harvester.specs.Turned.{with_turn}

@@ -12,7 +12,6 @@ use Rattle.kept_rows.specs.Account.{Place}
 use Rattle.kept_rows.specs.Followed.{AreFollowed, StartsAt, WasHidden}
 use Rattle.kept_rows.specs.Run.{Asking, Run, Scan}
 use Rattle.kept_rows.specs.Scans.{AreAsked, AsksFor, IsBehind, IsCovered, IsFirstPath, IsWhole, ShowsEntry, ShowsFileTo, ShowsKey}
-use Rattle.kept_rows.specs.Telling.{MayEnd, WasRemoved}
 use Rattle.kept_rows.specs.Trace.{Trace}
 use Rattle.outside.specs.Folders.{Closed, Event, Listed, ListingFailed, Opened, OpeningFailed}
 use Rattle.outside.specs.declared.history.Shown.{Shown}
@@ -21,7 +20,7 @@ use Rattle.told_events.proofs.Worked.{a_log}
 use Rattle.wire_base.specs.KeyOrder.{compare}
 use Rattle.wire_base.specs.declared.parcel.Parcel.{Parcel}
 use Rattle.accounts.specs.ByScans.{IsByScans, IsToldScan}
-use Rattle.accounts.specs.Filed.{Filed, account_of, first_opening, following_of}
+use Rattle.accounts.specs.Filed.{Filed, following_of}
 use Rattle.accounts.specs.Watch.{MayFindEnd}
 use Rattle.accounts.specs.Watched.{WasRemovedSince, watch_in}
 use Rattle.accounts.specs.FollowedFile.{BeganEarlier, BeginsThere, EachOpeningIsOne, IsFollowedFile}

@@ -3,15 +3,14 @@
 -- slot does. A tail is opened again only after the one before it was closed; it goes on from the end of the last event that was told, in the
 -- same epoch where the file was listed with at least that size, else from the first byte in the next one. By the last scan before an opening that showed
 -- the key it is known with which size and by which path the file was listed.
-use Rattle.std.specs.Prelude.{◌≡◌, ◌≢◌, ◌⊎◌, ℕ, zero, suc, ◌+◌, ◌<◌, ◌≤◌, max, true, length, List, [], ◌∷◌, ◌++◌, Contains, flat_map, map, slice_get, Option, Some}
+use Rattle.std.specs.Prelude.{◌≡◌, ◌≢◌, ◌⊎◌, ℕ, zero, suc, ◌+◌, ◌<◌, ◌≤◌, max, length, List, [], ◌∷◌, ◌++◌, Contains, flat_map, map, slice_get, Option, Some}
 use Rattle.std.specs.List.{AllByRecursion}
 use Rattle.file_identity.specs.AskedAgain.{GivesKey}
 use Rattle.harvester.specs.History.{Asks, Changed, Ended, History, Over, Reads, Stage, told_to}
-use Rattle.kept_rows.specs.Account.{Place}
 use Rattle.kept_rows.specs.Followed.{IsBegun, IsClosedBefore, IsNewlyKnown, OnlyReads, Start, asked_openings, start_by}
 use Rattle.kept_rows.specs.Run.{Run, Scan}
 use Rattle.kept_rows.specs.Scans.{AreDistinct, IsBefore, IsFirstPath, ShowsFileTo, ShowsKey, moment_in}
-use Rattle.kept_rows.specs.Telling.{MayEnd, opening_moment}
+use Rattle.kept_rows.specs.Telling.{opening_moment}
 use Rattle.kept_rows.specs.Trace.{IsTail}
 use Rattle.multiline_core.specs.Rule.{IsGroupRule}
 use Rattle.outside.specs.Folders.{Opened as OpenedAs}
@@ -21,9 +20,8 @@ use Rattle.outside.specs.declared.history.Shown.{Shown}
 use Rattle.outside.specs.declared.history.Sight.{Sight}
 use Rattle.ship_core.specs.Rows.{find}
 use Rattle.slot_parts.specs.Account.{goes_on}
-use Rattle.wire_base.specs.declared.parcel.Parcel.{Parcel}
 use Rattle.wire_base.specs.declared.row.Row.{Row}
-use Rattle.accounts.specs.Filed.{Filed, Opening, account_of, first_opening, following_of, slot_in, tail_by, told_both}
+use Rattle.accounts.specs.Filed.{Filed, Opening, first_opening, following_of, slot_in, tail_by, told_both}
 use Rattle.accounts.specs.Opened.{Opened}
 use Rattle.accounts.specs.ToldFile.{IsToldFile}
 use Rattle.accounts.specs.Watched.{watch_in}

@@ -1,7 +1,6 @@
 -- What a file's tails told one by one, and what the run tells its keeper as it opens a file again (this project's profile): the epoch, if it
 -- is another one than was told last.
-use Rattle.std.specs.Prelude.{ℕ, ◌==◌, List, [], ◌∷◌, ◌++◌, map, if◌then◌else◌}
-use Rattle.std.specs.List.{flat_map}
+use Rattle.std.specs.Prelude.{◌==◌, List, [], ◌∷◌, ◌++◌, map, if◌then◌else◌}
 use Rattle.harvester.specs.History.{History, Telling}
 use Rattle.slot_parts.specs.Tellings.{tellings_in}
 use Rattle.wire_base.specs.declared.note.Note.{Note}

@@ -1,19 +1,18 @@
 -- Rows over backed notes are stored as far as events are settled, if each settlement is noted.
-use Rattle.std.proofs.Common.{◌≡◌, ◌⊎◌, inl, inr, ℕ, ◌<◌, ◌≤◌, Bool, cond, eqb, true, false, List, [], ◌∷◌, Option, Some, None, refl, sym, ap, ◌∙◌, subst, arith}
+use Rattle.std.proofs.Common.{◌≡◌, ◌⊎◌, inl, inr, ℕ, ◌<◌, ◌≤◌, eqb, List, [], ◌∷◌, Option, Some, None, refl, sym, ap, ◌∙◌, subst, arith}
 use Rattle.std.specs.List.{AllByRecursion, Contains}
-use Rattle.std.proofs.lemmas.Bool.{eq-eqb, eqb-true}
+use Rattle.std.proofs.lemmas.Bool.{eq-eqb}
 use Rattle.std.proofs.lemmas.List.Elements.{All-contains, All-from_recursion}
 use Rattle.ship_core.proofs.Members.{given_there, none_there, passed_there, there_cases}
 use Rattle.ship_core.proofs.Prefixes.{IsFound, adjoining_behind, found_span, member_found}
 use Rattle.ship_core.specs.CoveredEnd.{Adjoin, covered_end, next_end}
-use Rattle.ship_core.specs.RowOver.{base_in, greatest_epoch, notes_of, row_over, slot_of as slot_named, span_in, spans_in, standing_row}
+use Rattle.ship_core.specs.RowOver.{base_in, greatest_epoch, notes_of, row_over, slot_of as slot_named, span_in, spans_in}
 use Rattle.ship_core.specs.Rows.{find}
 use Rattle.ship_core.specs.RowsOver.{AreRowsOver}
-use Rattle.told_events.specs.Fate.{cause_of_fate}
 use Rattle.wire_base.specs.Extent.{Extent}
 use Rattle.wire_base.specs.declared.note.Note.{Note}
 use Rattle.wire_base.specs.declared.row.Row.{Row}
-use Rattle.kept_rows.specs.Account.{AccountedEvent, EpochAccount, SlotAccount, epoch_at, slot_of, spans_of}
+use Rattle.kept_rows.specs.Account.{AccountedEvent, EpochAccount, SlotAccount, slot_of, spans_of}
 use Rattle.kept_rows.specs.Backed.{AreBacked, AreBegun, AreInRows}
 use Rattle.kept_rows.specs.Kept.{IsSettled, IsUnbegun}
 use Rattle.kept_rows.specs.Stored.{AreAllNoted, IsAllSettledBy, IsStored, IsStoredSoFar, WaitsAt, settlement_of}

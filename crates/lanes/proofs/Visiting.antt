@@ -1,6 +1,6 @@
 -- Each file of a lane that holds nothing as a round ends was visited in it.
-use Rattle.std.specs.Prelude.{◌==◌, slice_get, slice_set}
-use Rattle.std.proofs.Common.{◌≡◌, ◌≢◌, ◌⊎◌, inl, inr, ℕ, zero, suc, ◌+◌, ◌<◌, ◌≤◌, List, [], ◌∷◌, ◌++◌, Option, Some, None, length, refl, sym, ap, subst, ◌∙◌, append_assoc, append-nil, arith}
+use Rattle.std.specs.Prelude.{slice_get, slice_set}
+use Rattle.std.proofs.Common.{◌≡◌, ◌≢◌, ◌⊎◌, inl, inr, ℕ, zero, suc, ◌≤◌, List, [], ◌∷◌, ◌++◌, Option, Some, None, refl, sym, ap, subst, ◌∙◌, append_assoc, append-nil, arith}
 use Rattle.std.proofs.lemmas.Bool.{cases_eq}
 use Rattle.std.proofs.lemmas.Option.{slice_get_within}
 use Rattle.outside.specs.declared.history.Look.{Look}
@@ -16,10 +16,10 @@ use Rattle.harvester.specs.Held.{Held}
 use Rattle.harvester.specs.TurnLooks.{AreOfReading, AreOfTurn, AskForKey, IsRefused, LooksInTurn, LooksOn, TellsOrFails}
 use Rattle.harvester.specs.Turned.{HasOneEvent, IsByKey}
 use Rattle.lanes.specs.Laning.{Laning}
-use Rattle.lanes.specs.Running.{AreAllTurned, IsTurnedOrChanged, LaneRuns}
+use Rattle.lanes.specs.Running.{IsTurnedOrChanged, LaneRuns}
 use Rattle.lanes.specs.Step.{Step, turns_of}
 use Rattle.lanes.specs.Steps.{IsMade, Run}
-use Rattle.lanes.specs.Visiting.{AreVisited, AsksLength, HasAnswered, HasToldKey, IsReadNoFurther, IsVisited, LooksAgain}
+use Rattle.lanes.specs.Visiting.{AreVisited, AsksLength, IsReadNoFurther, IsVisited, LooksAgain}
 use Rattle.lanes.specs.declared.given.Given.TheVariants.{Nothing}
 use Rattle.lanes.specs.declared.run.When.{When}
 use Rattle.lanes.proofs.Passing.{other_is_none, other_kept, turns_on}

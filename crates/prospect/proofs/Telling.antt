@@ -1,5 +1,5 @@
 -- What a scan tells of what it has found.
-use Rattle.std.proofs.Common.{◌≡◌, ◌≢◌, ◌⊎◌, inl, inr, ⊎_elim, ℕ, zero, suc, ◌+◌, ◌<◌, ◌≤◌, false, true, List, [], ◌∷◌, ◌++◌, length, map, All, Any, Contains, Option, Some, None, IfSome, slice_get, refl, sym, ◌∙◌, ap, subst, arith, append_assoc, length-append}
+use Rattle.std.proofs.Common.{◌≡◌, ◌≢◌, ◌⊎◌, inl, inr, ⊎_elim, ℕ, zero, suc, ◌+◌, ◌<◌, ◌≤◌, false, true, List, [], ◌∷◌, ◌++◌, length, map, All, Any, Contains, Option, Some, None, IfSome, slice_get, refl, sym, ◌∙◌, ap, subst, arith, length-append}
 use Rattle.std.specs.Prelude.{◌^◌, flat_map, option_map}
 use Rattle.std.specs.BTreeMap.{get, is_at, IsOrdered}
 use Rattle.std.specs.Cmp.{IsTotalOrder, on_total, then_total, nat_cmp_is, nat_cmp_total}
@@ -40,7 +40,7 @@ use Rattle.prospect.specs.Readings.{Reading, globs_read, reading, reading_of, re
 use Rattle.prospect.specs.Scan.{AreListed, Listing, TellsPath}
 use Rattle.prospect.specs.Showings.{DifferInNumbers, HasNumbers, entries_for, entries_of}
 use Rattle.prospect.specs.Unfinished.{ListsSome}
-use Rattle.prospect.proofs.Covering.{covered_append, showing_by}
+use Rattle.prospect.proofs.Covering.{showing_by}
 use Rattle.prospect.proofs.Lists.{IsIn, all_append, all_both, all_flat, all_from_in, all_front, all_in, all_map, all_weaker, any_in, contains_in, contains_none, in_contained, in_flat, in_map, in_right, none_at_all, one_of_any}
 use Rattle.prospect.proofs.NativeKeys.{same_numbers}
 use Rattle.prospect.proofs.Unfinished.{all_listed}

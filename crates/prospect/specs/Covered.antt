@@ -1,5 +1,5 @@
 -- Which of the entries the inputs cover, path by path, then input by input, then entry by entry (this project's profile).
-use Rattle.std.specs.Prelude.{◌≡◌, ◌⊎◌, ℕ, ◌<◌, ◌≤◌, ◌^◌, List, [], ◌∷◌, ◌++◌, flat_map, length, map, Option, IfSome}
+use Rattle.std.specs.Prelude.{◌≡◌, ◌⊎◌, ℕ, ◌<◌, ◌^◌, List, [], ◌∷◌, ◌++◌, flat_map, map, Option, IfSome}
 use Rattle.file_identity.specs.Answers.{LacksNumbers}
 use Rattle.file_identity.specs.Key.{listed_key}
 use Rattle.outside.specs.declared.entry.Entry.{Entry}

@@ -2,7 +2,7 @@
 -- its listings showed is a file once for each input that has a glob which covers it, in byte order of the paths and then
 -- by the inputs' places in the settings. Where two listings showed one path with other native numbers, as of a file that took
 -- another's name meanwhile, it is a file of each of them to an input that knows files by these.
-use Rattle.std.specs.Prelude.{◌≡◌, ◌≢◌, ℕ, ◌≤◌, List, [], ◌∷◌, ◌++◌, flat_map, length, slice_get, All, Any, Contains, Option, None, Some, IfSome, IsSome}
+use Rattle.std.specs.Prelude.{◌≡◌, ◌≢◌, ℕ, List, [], ◌∷◌, flat_map, slice_get, All, Any, Contains, Option, None, Some, IfSome, IsSome}
 use Rattle.std.specs.List.{AllByRecursion}
 use Rattle.std.specs.Ordering.{nat_cmp, ordering_then}
 use Rattle.std.specs.declared.cmp.Ordering.{Ordering}

@@ -1,12 +1,11 @@
 -- What asking listed files for their keys does with a folder: each tail that it opens tells nothing but reads and is closed, nothing is listed, and
 -- what was answered stands in the folder's list, each opening behind those of the files before.
-use Rattle.std.proofs.Common.{◌≡◌, ◌⊎◌, inl, inr, ⊎_elim, ℕ, zero, suc, ◌+◌, ◌≤◌, ◌<◌, Bool, drop, List, [], ◌∷◌, ◌++◌, Contains, length, map, append_assoc, append-nil, length-append, Option, Some, None, refl, sym, ap, subst, ◌∙◌, arith, if◌then◌else◌}
+use Rattle.std.proofs.Common.{◌≡◌, ◌⊎◌, inl, inr, ⊎_elim, ℕ, zero, suc, ◌+◌, ◌≤◌, ◌<◌, Bool, drop, List, [], ◌∷◌, ◌++◌, length, append_assoc, append-nil, length-append, Option, Some, None, refl, sym, ap, subst, ◌∙◌, arith, if◌then◌else◌}
 use Rattle.std.proofs.lemmas.Bool.{eq-eqb}
 use Rattle.std.proofs.lemmas.List.{drop-append-le}
-use Rattle.std.proofs.lemmas.List.Elements.{Contains-append_cases}
 use Rattle.std.proofs.lemmas.Option.{slice_get_within}
 use Rattle.std.specs.Prelude.{slice_get}
-use Rattle.std.specs.List.{AllByRecursion, cons_option, filter_map}
+use Rattle.std.specs.List.{AllByRecursion}
 use Rattle.event_tree.specs.declared.input_rule.InputRule.{InputRule}
 use Rattle.file_identity.specs.Answers.{IsFingerprint}
 use Rattle.file_identity.specs.AskedAgain.{IsRead}
@@ -14,7 +13,6 @@ use Rattle.file_identity.specs.Asking.{IsAsking, given_key}
 use Rattle.kept_rows.proofs.Acknowledging.{got_in_front}
 use Rattle.kept_rows.proofs.Showing.{both}
 use Rattle.kept_rows.specs.Run.{Asking}
-use Rattle.kept_rows.specs.Scans.{AreDistinct}
 use Rattle.kept_rows.specs.Trace.{Closing, closing_in, first_of_two}
 use Rattle.outside.specs.Files.{File}
 use Rattle.outside.specs.Folders.{Closed, Event, FolderHistory, NotThere, Opened, OpeningFailed}
@@ -24,12 +22,11 @@ use Rattle.prospect.specs.AskedFiles.{Answer, AnswersSo, AskedFile, AsksFrom, As
 use Rattle.prospect.specs.PastFaults.{Answered, Faulted, FaultsOne, TriesOne, Trial, answered_in}
 use Rattle.prospect.specs.Scan.{with_events}
 use Rattle.prospect.specs.declared.listed.Listed.{Listed}
-use Rattle.ship_core.proofs.Members.{first_there, given_there, later_there, none_there, there_cases, there_given}
 use Rattle.told_scans.specs.FolderOn.{FolderGoesOn}
 use Rattle.told_scans.specs.OnlyAsked.{HasOnlyAsked, IsNoListing, WasOnlyAsked}
 use Rattle.told_scans.proofs.Events.{closing_both, got_at_end}
-use Rattle.told_scans.proofs.Members.{asking_reads, each_then, mapped_there, member_is, of_map}
-use Rattle.told_scans.specs.ToldScan.{AsksSo, asking_at, asking_of, opening_by}
+use Rattle.told_scans.proofs.Members.{asking_reads, each_then}
+use Rattle.told_scans.specs.ToldScan.{AsksSo, opening_by}
 
 -- ---- places in lists
 

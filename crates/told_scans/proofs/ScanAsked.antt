@@ -1,6 +1,6 @@
 -- The askings of a run's scan: each was made by its entry alone, or by a tail that told one whole asking and was closed without a fault, or nothing had
 -- the path, or opening or reading the file failed; each opening was made for one file, behind all listings.
-use Rattle.std.proofs.Common.{◌≡◌, inl, inr, ℕ, ◌≤◌, List, Contains, length, Option, Some, None, refl, sym, ap, subst, ◌∙◌, arith}
+use Rattle.std.proofs.Common.{◌≡◌, inl, inr, ℕ, ◌≤◌, List, Contains, length, Option, Some, None, refl, sym, ap, subst, arith}
 use Rattle.std.specs.Prelude.{option_map}
 use Rattle.std.specs.List.{AllByRecursion}
 use Rattle.event_tree.specs.declared.input_rule.InputRule.{InputRule}

@@ -1,5 +1,5 @@
 -- A scan of which no listing failed and no asking is whole.
-use Rattle.std.proofs.Common.{◌≡◌, List, Contains, length, Some, sym, ap, subst, ◌∙◌}
+use Rattle.std.proofs.Common.{Contains, length, sym, ap, subst, ◌∙◌}
 use Rattle.std.proofs.lemmas.List.{length-map}
 use Rattle.std.specs.List.{AllByRecursion}
 use Rattle.kept_rows.specs.Run.{Asking, Run, Scan}

@@ -1,4 +1,3 @@
-use lib.ListN.{length-map}
 use Rattle.std.specs.Option.{option_map}
 use Rattle.std.proofs.Common.{◌<◌, length, refl, sym, ap, ◌∙◌, rules, arith}
 use Rattle.std.proofs.lemmas.Option.{slice_get-map, slice_get_read}

@@ -1,4 +1,4 @@
-use Rattle.std.proofs.Common.{Some, sym, subst, ◌∙◌}
+use Rattle.std.proofs.Common.{sym, subst, ◌∙◌}
 use Rattle.std.proofs.lemmas.Option.{same_Some}
 use Rattle.harvester.specs.declared.harvester.Harvester.{Harvester}
 use Rattle.lanes.specs.Laning.{IsOfSlot}
