@@ -94,16 +94,16 @@ spans_over slot so_far (next ∷ later) =
     let both = events_both so_far next.history in
     omega (arith, behind, both)
 
-spans_both : (first second : List Turned) → spans_in (first ++ second) ≡ spans_in first + spans_in second
-spans_both [] second = omega arith
-spans_both (one ∷ first) second = let rest = spans_both first second in omega (arith, rest)
+pub spans_of_both : (first second : List Turned) → spans_in (first ++ second) ≡ spans_in first + spans_in second
+spans_of_both [] second = omega arith
+spans_of_both (one ∷ first) second = let rest = spans_of_both first second in omega (arith, rest)
 
 pub spans_of_all : (files : List Filed) → spans_in (turned_of files) ≡ spans_in (flat_map each_turned files)
 spans_of_all [] = refl
 spans_of_all (file ∷ files) =
     let own = spans_over file.turned.slot file.turned.history file.later in
     let others = spans_of_all files in
-    let both = spans_both (each_turned file) (flat_map each_turned files) in
+    let both = spans_of_both (each_turned file) (flat_map each_turned files) in
     omega (arith, own, others, both)
 
 -- ---- notes

@@ -1,5 +1,4 @@
 ghost use Rattle.std.specs.Prelude.{◌≡◌, ◌≤◌, List, [], ◌++◌, ℕ, drop, None, Some, IfSome, IsSome};
-ghost use Rattle.outside.specs.Counts.{IsAtEnd};
 ghost use Rattle.wire_base.specs.Ranges.{IsMoment};
 ghost use Rattle.wire_base.specs.declared.parcel.Parcel.{Parcel};
 ghost use Rattle.batch_worker.specs.Ending.{EndsLink, HasTalks, failed_at, unlinked};

@@ -1,6 +1,4 @@
 ghost use Rattle.std.specs.Prelude.{◌≡◌, ◌≤◌, take, IfErr, IfOk, IfSome};
-ghost use Rattle.beat_config.specs.Document.{AreSettingsOf, IsFirstFault};
-ghost use Rattle.beat_config.specs.InRange.{AreInRange};
 ghost use Rattle.findings.specs.Ends.{IsSourceEnd};
 
 use beat_config::MAX_SETTINGS;

@@ -1,6 +1,5 @@
 ghost use Rattle.std.specs.Prelude.{◌≡◌, ◌⊎◌, ◌||◌, ◌↔◌, ℕ, ◌+◌, ◌<◌, ◌≤◌, Bool, true, false, List, [], ◌∷◌, ◌++◌, Contains, IfOk, IfSome, IsSome, IsTrue, None, OnErr, OnOk, Some, length, take};
 ghost use Rattle.event_tree.specs.declared.processor_rule.ProcessorRule.{ProcessorRule};
-ghost use Rattle.multiline_core.specs.declared.group.Group.{Group};
 ghost use Rattle.outside.specs.Counts.{Rose};
 ghost use Rattle.outside.specs.Tails.{TellsRead};
 ghost use Rattle.outside.specs.declared.history.Look.{Look};

@@ -46,10 +46,6 @@ pub spans_both : (first second : List Step) → steps.spans_in (first ++ second)
 spans_both [] second = omega arith
 spans_both (step ∷ first) second = let later = spans_both first second in omega (arith, later)
 
-pub spans_of_both : (first second : List Turned) → spans_in (first ++ second) ≡ spans_in first + spans_in second
-spans_of_both [] second = omega arith
-spans_of_both (turned ∷ first) second = let later = spans_of_both first second in omega (arith, later)
-
 -- ---- files that gave more, put together
 
 gave_none : (files : List Turned) → GaveMore files files [] [] 0

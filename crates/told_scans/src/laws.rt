@@ -7,8 +7,8 @@ ghost use Rattle.told_scans.specs.ToldScan.{IsAround, IsTold, IsToldWithoutFault
 /// A scan that listed for each glob and asked each file, as its calls report it, without a fault is a whole scan of each run around it. A law;
 /// it computes nothing.
 pub fn told_scans_are_whole()
-    ensures { (told : ToldScan) (around : RunAround) → IsToldWithoutFault told → IsAround told around →
-        IsWhole (run_around told around) (scan_by told) }
+    ensures { (told : ToldScan) (around : RunAround) → IsToldWithoutFault told →
+        IsAround told around → IsWhole (run_around told around) (scan_by told) }
 {}
 
 /// A scan of which a listing failed, or the opening or reading of a file that was asked for its key, is no whole scan. A law;
