@@ -1,5 +1,5 @@
 -- A run sets out over its scan, the store that was opened and a keeper made over it.
-use Rattle.std.proofs.Common.{◌≡◌, ℕ, All, List, [], Option, sym, ap, subst, ◌∙◌}
+use Rattle.std.proofs.Common.{◌≡◌, ℕ, true, All, List, [], Option, sym, ap, subst, ◌∙◌}
 use Rattle.atomic_table.specs.Seated.{TableId}
 use Rattle.beat_config.specs.InRange.{AreInRange}
 use Rattle.event_tree.specs.declared.settings.Settings.{Settings}

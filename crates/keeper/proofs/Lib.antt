@@ -1,5 +1,5 @@
 mod Committing
-mod Few
+pub mod Few
 mod Gathering
 pub mod InARow
 mod Sounding

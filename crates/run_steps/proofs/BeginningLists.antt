@@ -183,16 +183,17 @@ module _ {T W L : Type 0} (tails : TailWords T) (settings : Settings) (rows : Li
 
   pub from_rose : (slot : ℕ) (listed : List Listed) (came : Came) (old new : Beginning T W L) → BeginsFrom tails settings rows now slot listed came old new → came.faulty ≡ true → Rose old.folder.faults new.folder.faults
   from_rose slot [] came old new is faulty = absurd (let q : false ≡ true = sym (ap (λ (c : Came). c.faulty) is.0) ∙ faulty in cc)
-  from_rose slot (one ∷ listed) came old new is faulty = by_begun is.begun is.first (sym (ap (λ (c : Came). c.faulty) is.came_is) ∙ faulty)
+  from_rose slot (one ∷ listed) came old new is faulty =
+      by_begun is.begun is.first (sym (ap (λ (c : Came). c.faulty) is.came_is) ∙ faulty) (from_rose (suc slot) listed is.later is.mid new is.rest)
     where
-      later_rose : is.later.faulty ≡ true → Rose old.folder.faults new.folder.faults
-      later_rose later = rose_since old.folder.faults is.mid.folder.faults new.folder.faults (one_keeps slot one (Ok is.begun) old is.mid is.first).faults_never_fall
-          (from_rose (suc slot) listed is.later is.mid new is.rest later)
+      behind_first : Rose is.mid.folder.faults new.folder.faults → Rose old.folder.faults new.folder.faults
+      behind_first rose = rose_since old.folder.faults is.mid.folder.faults new.folder.faults (one_keeps slot one (Ok is.begun) old is.mid is.first).faults_never_fall rose
 
-      by_begun : (begun : Admission) → BeginsOne tails settings (file_at rows slot one now) (Ok begun) old is.mid → (has_failed begun || is.later.faulty) ≡ true → Rose old.folder.faults new.folder.faults
-      by_begun Followed first later = later_rose later
-      by_begun (Skipped why) first later = later_rose later
-      by_begun Failed first later = rose_on old.folder.faults is.mid.folder.faults new.folder.faults (failed_rose (file_at rows slot one now) old is.mid first)
+      by_begun : (begun : Admission) → BeginsOne tails settings (file_at rows slot one now) (Ok begun) old is.mid → (has_failed begun || is.later.faulty) ≡ true →
+          (is.later.faulty ≡ true → Rose is.mid.folder.faults new.folder.faults) → Rose old.folder.faults new.folder.faults
+      by_begun Followed first some rest = behind_first (rest some)
+      by_begun (Skipped why) first some rest = behind_first (rest some)
+      by_begun Failed first some rest = rose_on old.folder.faults is.mid.folder.faults new.folder.faults (failed_rose (file_at rows slot one now) old is.mid first)
           (from_keeps (suc slot) listed is.later is.mid new is.rest).faults_never_fall
 
   pub begun_rose : (listed : List Listed) (result : Result BegunFiles BeginError) (old new : Beginning T W L) → IfOk result (λ files. BeginsAll tails settings rows now listed (came_of files) old new) →

@@ -32,9 +32,6 @@ module _ {T : Type 0} (tails : TailWords T) (settings : Settings) (file : Listed
   pub key_is_listed : (key : List ℕ) (same : Bool) → Asks (Ok (Key key)) → (IsTrue same ↔ (file.listed.key ≡ Some key)) → same ≡ true → TellsKey tails settings file fresh asked (Ok None)
   key_is_listed key same asks of is = record { key = key; asks = asks; listed = of.0 is }
 
-  pub key_is_other : (key : List ℕ) (same : Bool) → Asks (Ok (Key key)) → (IsTrue same ↔ (file.listed.key ≡ Some key)) → same ≡ false → TellsKey tails settings file fresh asked (Ok (Some (Skipped Moved)))
-  key_is_other key same asks of is = record { key = key; asks = asks; other = λ listed. let q : true ≡ false = sym (of.1 listed) ∙ is in cc }
-
   -- whatever came of it, the tail was asked
   pub told_of_key : (result : Result (Option Admission) BeginError) → TellsKey tails settings file fresh asked result → (answer : Result Identity IdentityError) × Asks answer
   told_of_key (Ok None) of = (Ok (Key of.key), of.asks)

@@ -69,10 +69,10 @@ module _ {L : Type 0} (told : L → Option Talk) (faults idles : L → ℕ) (box
   told_failing : (failure : Failure) → IsTurn told faults idles box before after now old new (Failed failure) → OutcomesGoOn before.outcomes after.outcomes
   told_failing Connect turn = told_refused before.outcomes after.outcomes after.faults turn.cause.kept
   told_failing Send turn = told_finished before.outcomes (told turn.cause.ended) (faults turn.cause.ended) (idles turn.cause.ended) after.outcomes turn.cause.outcome
-  told_failing Receive turn = told_finished before.outcomes (told turn.cause.ended) (faults turn.cause.ended) (idles turn.cause.ended) after.outcomes turn.cause.outcome
-  told_failing Closed turn = told_finished before.outcomes (told turn.cause.ended) (faults turn.cause.ended) (idles turn.cause.ended) after.outcomes turn.cause.outcome
-  told_failing (Peer at) turn = told_finished before.outcomes (told turn.cause.ended) (faults turn.cause.ended) (idles turn.cause.ended) after.outcomes turn.cause.outcome
-  told_failing (TimedOut since until) turn = told_finished before.outcomes (told turn.cause.ended) (faults turn.cause.ended) (idles turn.cause.ended) after.outcomes turn.cause.outcome
+  told_failing Receive turn = told_finished before.outcomes (told turn.cause.finishes.ended) (faults turn.cause.finishes.ended) (idles turn.cause.finishes.ended) after.outcomes turn.cause.finishes.outcome
+  told_failing Closed turn = told_finished before.outcomes (told turn.cause.finishes.ended) (faults turn.cause.finishes.ended) (idles turn.cause.finishes.ended) after.outcomes turn.cause.finishes.outcome
+  told_failing (Peer at) turn = told_finished before.outcomes (told turn.cause.finishes.ended) (faults turn.cause.finishes.ended) (idles turn.cause.finishes.ended) after.outcomes turn.cause.finishes.outcome
+  told_failing (TimedOut since until) turn = told_finished before.outcomes (told turn.cause.finishes.ended) (faults turn.cause.finishes.ended) (idles turn.cause.finishes.ended) after.outcomes turn.cause.finishes.outcome
 
   goes_by_turn : (t : WorkerTurn) → IsTurn told faults idles box before after now old new t → WireGoesOn before after old.link new.link
   goes_by_turn Worked turn = record {

@@ -20,24 +20,24 @@ module _ (rows : List Row) where
 
   no_more : (listed : List Listed) (keys : List (List ℕ)) → AreKeysApart listed → HaveRowsOf keys listed → length listed ≤ length keys + new_files rows listed
   no_more [] keys apart of = omega arith
-  no_more (one ∷ others) keys apart of = by_row (is_none (row_of rows one.key)) refl
+  no_more (one ∷ others) keys apart of = by_row (λ more have. no_more others more apart.1 have) (is_none (row_of rows one.key)) refl
     where
       rest : List Listed
       rest = filter (λ (o : Listed). is_none (row_of rows o.key)) others
 
-      by_key : (k : Option (List ℕ)) → one.key ≡ k → is_none (row_of rows one.key) ≡ false → length (one ∷ others) ≤ length keys + length rest
-      by_key None key_is is = absurd (let no : true ≡ false = subst (λ (o : Option (List ℕ)). is_none (row_of rows o) ≡ false) key_is is in cc)
-      by_key (Some key) key_is is =
+      by_key : ((more : List (List ℕ)) → HaveRowsOf more others → length others ≤ length more + new_files rows others) → (k : Option (List ℕ)) → one.key ≡ k → is_none (row_of rows one.key) ≡ false → length (one ∷ others) ≤ length keys + length rest
+      by_key fewer_of None key_is is = absurd (let no : true ≡ false = subst (λ (o : Option (List ℕ)). is_none (row_of rows o) ≡ false) key_is is in cc)
+      by_key fewer_of (Some key) key_is is =
           let without = take_out key keys (of one (inl refl) key key_is (subst (λ (o : Option (List ℕ)). is_none (row_of rows o) ≡ false) key_is is)) in
-          let fewer = no_more others without.rest apart.1
+          let fewer = fewer_of without.rest
               (λ other there k other_is some. without.others k
               (λ same. apart.0 (subst (HaveKey others) (sym key_is) (any_in (λ (o : Listed). o.key ≡ Some key) others other there (other_is ∙ ap Some same))))
               (of other (inr there) k other_is some)) in
           omega (arith, fewer, without.shorter)
 
-      by_row : (b : Bool) → is_none (row_of rows one.key) ≡ b → length (one ∷ others) ≤ length keys + length (if b then one ∷ rest else rest)
-      by_row true is = let fewer = no_more others keys apart.1 (λ other there. of other (inr there)) in omega (arith, fewer)
-      by_row false is = by_key one.key refl is
+      by_row : ((more : List (List ℕ)) → HaveRowsOf more others → length others ≤ length more + new_files rows others) → (b : Bool) → is_none (row_of rows one.key) ≡ b → length (one ∷ others) ≤ length keys + length (if b then one ∷ rest else rest)
+      by_row fewer_of true is = let fewer = fewer_of keys (λ other there. of other (inr there)) in omega (arith, fewer)
+      by_row fewer_of false is = by_key fewer_of one.key refl is
 
   pub no_more_listed : (listed : List Listed) → AreKeysApart listed → length listed ≤ length rows + new_files rows listed
   no_more_listed listed apart =

@@ -9,6 +9,7 @@ use Rattle.accounts.specs.Watch.{Watch}
 use Rattle.accounts.proofs.Lists.{flat_map_both}
 use Rattle.accounts.proofs.Often.{often_same, often_then}
 use Rattle.accounts.proofs.Onward.{each_stands_later}
+use Rattle.accounts.proofs.OpenedAgain.{spans_of_both}
 use Rattle.accounts.proofs.Turning.{run_tells}
 use Rattle.harvester.specs.Standing.{EndsAt}
 use Rattle.harvester.specs.declared.harvester.Harvester.{Harvester}

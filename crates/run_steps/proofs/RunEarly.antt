@@ -337,7 +337,7 @@ module _ {D : Type 0} (disks : DiskWords D) (start : Began D) (folder : FolderTo
       rows = λ at_rest first second rows a_is b_is gives. rows_by (ordered_at_rest disks start.a start.b start.opening at_rest gave) met rows (given_over_fronts one start.opening [] first second rows ((areas at_rest).both first second a_is b_is) gives);
       images = λ at_rest. images_hold one early_run [] disks early_objects at_rest start.opening gave [] (areas at_rest) (image_rows LostInImage (ordered_at_rest disks start.a start.b start.opening at_rest gave));
       together = λ at_rest. together_hold one early_run [] disks early_objects at_rest start.opening gave [] (areas at_rest) (image_rows LostInImage (ordered_at_rest disks start.a start.b start.opening at_rest gave));
-      drained = λ at_rest is_done. absurd (not_done is_done);
+      drained = λ at_rest is_done. absurd (not_telling (subst IsTelling (sym is_done) tt));
       taken_up = λ telling. absurd (not_telling telling);
       read = λ stopped. tt;
     }
@@ -426,7 +426,7 @@ module _ {D : Type 0} (disks : DiskWords D) (settings : Settings) (opening : Lis
       rows = λ at_rest first second rows a_is b_is gives. still_rows (ordered_at_rest disks from_a from_b opening at_rest gave) met rows (given_over_fronts one opening [] first second rows ((areas at_rest).both first second a_is b_is) gives);
       images = λ at_rest. images_hold one still_run [] disks still_objects at_rest opening gave [] (areas at_rest) (still_image_rows LostInImage (ordered_at_rest disks from_a from_b opening at_rest gave));
       together = λ at_rest. together_hold one still_run [] disks still_objects at_rest opening gave [] (areas at_rest) (still_image_rows LostInImage (ordered_at_rest disks from_a from_b opening at_rest gave));
-      drained = λ at_rest is_done. absurd (not_done is_done);
+      drained = λ at_rest is_done. absurd (not_telling (subst IsTelling (sym is_done) tt));
       taken_up = λ telling. absurd (not_telling telling);
       read = λ stopped. tt;
     }

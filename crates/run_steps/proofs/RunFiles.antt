@@ -238,12 +238,12 @@ module _ {T W L D : Type 0} (words : Words T W L D) (start : Began D) (state : R
         let read = (stands.files.read yet tells).in_left in
         let in_left : AllByRecursion (IsLeftRead folder.ended) so_far.left = subst (λ (o : Option FolderHistory). IfSome o (λ now. AllByRecursion (IsLeftRead now) so_far.left)) shown read in
         by_told of.item.told (member_is (λ (l : Left). IsSome l.told) so_far.left of.item (stands.files.left_tell tells) of.among)
-        (told_of of.item (member_is (IsLeftSo processors so_far.opened so_far.moments) so_far.left of.item stands.files.left of.among) of.is)
+        (told_of of.item (member_is (IsLeftSo watch so_far.opened so_far.moments) so_far.left of.item stands.files.left of.among) of.is)
         (member_is (λ (l : Left). IfSome l.told (λ tail. WasClosedWith folder.ended tail.opening tail.looks)) so_far.left of.item done.closed of.among)
         (subst (λ (t : Turned). IfSome of.item.told (λ tail. closing_in tail.opening (drop (suc tail.opening) folder.ended.events) ≡ Some (record { looks = tail.looks; faults = 0 }) →
         ReadsBehind false t.history.begin.base tail.looks)) of.is (member_is (IsLeftRead folder.ended) so_far.left of.item in_left of.among))
       where
-        by_told : (o : Option TailHistory) → IsSome o → IsToldFile processors one so_far.moments file.turned o → IfSome o (λ tail. WasClosedWith folder.ended tail.opening tail.looks) →
+        by_told : (o : Option TailHistory) → IsSome o → IsToldFile watch one so_far.moments file.turned o → IfSome o (λ tail. WasClosedWith folder.ended tail.opening tail.looks) →
             IfSome o (λ tail. closing_in tail.opening (drop (suc tail.opening) folder.ended.events) ≡ Some (record { looks = tail.looks; faults = 0 }) → ReadsBehind false file.turned.history.begin.base tail.looks) →
             ReadsBehind false one.begin.base its_looks
         by_told None some told was read = absurd cc

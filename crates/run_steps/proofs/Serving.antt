@@ -3,7 +3,7 @@ use Rattle.std.proofs.Common.{◌≡◌, ◌⊎◌, inl, inr, ⊎_elim, ℕ, zer
 use Rattle.std.proofs.lemmas.Bool.{or_parts}
 use Rattle.std.proofs.lemmas.List.Elements.{Contains-append_cases, Contains-append_left, Contains-append_right}
 use Rattle.std.proofs.lemmas.List.{length-append}
-use Rattle.std.specs.Prelude.{option_map, slice_get}
+use Rattle.std.specs.Prelude.{IsSome, option_map, slice_get}
 use Rattle.event_tree.specs.declared.input_rule.IdentityRule.{IdentityRule}
 use Rattle.event_tree.specs.declared.input_rule.IdentityRule.TheVariants.{Fingerprint, Native, Path}
 use Rattle.event_tree.specs.declared.input_rule.InputRule.{InputRule}
@@ -164,14 +164,18 @@ module _ {T W L : Type 0} (tails : TailWords T) (settings : Settings) (rows : Li
               gave = subst (λ (n : Option (ℕ × ℕ)). IsGiven asks.rule.id asks.rule.file_identity file.listed.path (with_numbers n opens.file) asked.looks result) opens.numbers asked.gave;
             }
 
+    -- an opened tail has met no fault, nor has it since
+    pub none_met : ToldClosed → (IsSome (tails.told closed.fresh) → faults ≡ tails.faults closed.fresh) → faults ≡ 0
+    none_met its no_fault = subst (λ (o : Option TailHistory). IsSome o → faults ≡ tails.faults closed.fresh) its.opens.begins no_fault refl ∙ closed.opened.opens.fresh
+
     abbrev events_of : ToldClosed → List Event
     events_of its = Opened file.listed.path its.opens.one.file (sight_of its.opens.one) ∷ (Closed (length before.events) its.looks faults ∷ [])
 
     -- it gave this key, or none, as it was asked
     gave_so : (began : ℕ) → began ≤ length before.events → (its : ToldClosed) (key : Option (List ℕ)) → IsAsking asks.rule.file_identity its.looks →
-        given_key asks.rule.id asks.rule.file_identity file.listed.path its.opens.file its.looks ≡ key →
+        given_key asks.rule.id asks.rule.file_identity file.listed.path its.opens.file its.looks ≡ key → faults ≡ 0 →
         GaveAsOpened settings.inputs (folder_trace began (with_more before (events_of its))) file.listed (length before.events) key
-    gave_so began within its key asking gave = record {
+    gave_so began within its key asking gave none = record {
       rule = asks.rule;
       rule_is = asks.rule_is;
       number = its.opens.one.file;
@@ -187,6 +191,10 @@ module _ {T W L : Type 0} (tails : TailWords T) (settings : Settings) (rows : Li
               (behind_it before.events (Opened file.listed.path its.opens.one.file (sight_of its.opens.one)) (Closed (length before.events) its.looks faults ∷ []) (length before.events) refl)
               ∙ closes_here (length before.events) its.looks faults []);
         };
+        closed = ap (closing_in (length before.events))
+            (behind_it before.events (Opened file.listed.path its.opens.one.file (sight_of its.opens.one)) (Closed (length before.events) its.looks faults ∷ []) (length before.events) refl)
+            ∙ closes_here (length before.events) its.looks faults []
+            ∙ ap (λ (n : ℕ). Some (record { looks = its.looks; faults = n })) none;
         file_is = its.opens.file_is;
         asking = asking;
         gave = sym gave;
@@ -234,7 +242,8 @@ module _ {T W L : Type 0} (tails : TailWords T) (settings : Settings) (rows : Li
       closed_serves file (HasOtherKey tails settings file) before old new closed (Ok (Key key)) asks began slot Moved its
       (record {
         other = key;
-        opened = gave_so file (HasOtherKey tails settings file) before old new closed (Ok (Key key)) asks began within its (Some key) its.gave.0 its.gave.1;
+        opened = gave_so file (HasOtherKey tails settings file) before old new closed (Ok (Key key)) asks began within its (Some key) its.gave.0 its.gave.1
+            (none_met file (HasOtherKey tails settings file) before old new closed (Ok (Key key)) asks its closed.closed.why.no_fault);
         other_key = closed.closed.why.other;
       })
   serves_one began slot one (Skipped Small) before old new is within none closed =
@@ -244,7 +253,8 @@ module _ {T W L : Type 0} (tails : TailWords T) (settings : Settings) (rows : Li
       let its = closed_told file (IsTooSmall tails settings file) before old new closed (Ok (TooSmall place)) asks is in
       closed_serves file (IsTooSmall tails settings file) before old new closed (Ok (TooSmall place)) asks began slot Small its
       (record {
-        opened = gave_so file (IsTooSmall tails settings file) before old new closed (Ok (TooSmall place)) asks began within its None its.gave.0 its.gave.1;
+        opened = gave_so file (IsTooSmall tails settings file) before old new closed (Ok (TooSmall place)) asks began within its None its.gave.0 its.gave.1
+            (none_met file (IsTooSmall tails settings file) before old new closed (Ok (TooSmall place)) asks its closed.closed.why.no_fault);
         by_bytes = within_bytes asks.rule.file_identity place asks.answer;
       })
   serves_one began slot one Failed before old new is within none begins = absurd (let q : true ≡ false = none in cc)

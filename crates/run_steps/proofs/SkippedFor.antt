@@ -58,6 +58,8 @@ module _ (old new : Trace) (more : List Event) (files : new.files ≡ old.files)
           opened = stands_still opening (Opened one.path was.number was.gave.tail.begun) was.gave.tail.opened;
           tells = tells_still opening (Opened one.path was.number was.gave.tail.begun) was.gave.looks was.gave.tail.opened was.gave.tail.tells;
         };
+        closed = ap (λ (l : List Event). closing_in opening (drop (suc opening) l)) events
+            ∙ closed_still old.events more opening (Opened one.path was.number was.gave.tail.begun) (record { looks = was.gave.looks; faults = 0 }) was.gave.tail.opened was.gave.closed;
         file_is = ap (λ (l : List File). slice_get l was.number) files ∙ was.gave.file_is;
         asking = was.gave.asking;
         gave = was.gave.gave;

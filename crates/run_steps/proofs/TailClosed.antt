@@ -337,7 +337,7 @@ module _ {T W L D : Type 0} (words : Words T W L D) (start : Began D) (moments :
                 IfSome o (λ tail. closing_in tail.opening (drop (suc tail.opening) (then_told told).events) ≡ Some (record { looks = tail.looks; faults = 0 }) → ReadsBehind false l.turned.history.begin.base tail.looks)
             still l there None is reads_l = tt
             still l there (Some tail) is reads_l =
-                let of = member_is (IsLeftSo processors so_far.opened so_far.moments) so_far.left l reads.files.left there in
+                let of = member_is (IsLeftSo watch so_far.opened so_far.moments) so_far.left l reads.files.left there in
                 let tail_is : IsTailOf of.file tail = subst (λ (o : Option TailHistory). IfSome o (IsTailOf of.file)) is of.is_told.tail in
                 let below : tail.opening < length now.events = subst (λ (n : ℕ). n < length now.events) (sym tail_is.opening) (stands_within of.file of.among) in
                 read_still now (events told) l.turned.history.begin.base tail below

@@ -104,8 +104,8 @@ pub finished_by : (begun : Result BegunFiles BeginError) (met : Met) → IfErr b
 finished_by (Ok files) met first is = ap (λ (m : Met). phase_left (phase_met m)) is
 finished_by (Err error) met first is = absurd (not_done error (sym first ∙ is))
 
-pub halted_by : (begun : Result (Vec Passing Global) BeginError) (met : Met) → IfErr begun (λ error. met ≡ met_of error) → met ≡ Stopped → phase_left (phase_worked begun met) ≡ Halted
-halted_by (Ok passed) met first is = ap (λ (m : Met). phase_left (phase_met m)) is
+pub halted_by : (begun : Result BegunFiles BeginError) (met : Met) → IfErr begun (λ error. met ≡ met_of error) → met ≡ Stopped → phase_left (phase_worked begun met) ≡ Halted
+halted_by (Ok files) met first is = ap (λ (m : Met). phase_left (phase_met m)) is
 halted_by (Err error) met first is = absurd (not_stopped_so error (sym first ∙ is))
 
 -- nor does what the last steps met

@@ -1,6 +1,6 @@
 -- How a listed file begins (Filebeat reference, filestream input, file identity; this project's profile): it is opened and asked for its
 -- key, the keeper is told of it, and the lane of its slot has its harvester.
-use Rattle.std.specs.Prelude.{◌≡◌, ◌≢◌, ◌⊎◌, ℕ, ◌%◌, ◌≤◌, false, List, [], ◌∷◌, ◌++◌, length, slice_get, Option, Some, None, Result, Ok, Err, IfErr, IfOk, IfSome, IsErrOf, IsNone}
+use Rattle.std.specs.Prelude.{◌≡◌, ◌≢◌, ◌⊎◌, ℕ, ◌%◌, ◌≤◌, false, List, [], ◌∷◌, ◌++◌, length, slice_get, Option, Some, None, Result, Ok, Err, IfErr, IfOk, IfSome, IsErrOf, IsNone, IsSome}
 use Rattle.event_tree.specs.declared.input_rule.InputRule.{InputRule}
 use Rattle.event_tree.specs.declared.settings.Settings.{Settings}
 use Rattle.file_identity.specs.Answers.{IsAnswer, IsAsked, IsRefusedOpened}
@@ -130,11 +130,13 @@ module _ {T : Type 0} (tails : TailWords T) (settings : Settings) (file : Listed
       pub key : List ℕ
       pub asks : AsksKey fresh asked (Ok (Key key))
       pub other : file.listed.key ≢ Some key
+      pub no_fault : IsSome (tails.told fresh) → tails.faults asked ≡ tails.faults fresh
 
     -- not all bytes of its fingerprint were there
     pub record IsTooSmall : Type 0 where
       pub place : ℕ
       pub asks : AsksKey fresh asked (Ok (TooSmall place))
+      pub no_fault : IsSome (tails.told fresh) → tails.faults asked ≡ tails.faults fresh
 
     -- or this is not known
     pub record FailsToTell (error : IdentityError) : Type 0 where

@@ -34,6 +34,12 @@ pub(crate) fn ended_behind(faulty: bool, error: BeginError) -> BeginError
 {
     match error {
         BeginError::NoMemory => error,
-        _ => { if faulty { BeginError::FolderFault } else { error } }
+        _ => {
+            if faulty {
+                BeginError::FolderFault
+            } else {
+                error
+            }
+        }
     }
 }

@@ -144,13 +144,14 @@ fn going_row(
 fn tell_row(alloc: Global, slot: Slot, row: Row, keeper: &mut Keeper) -> Result<(), NoMemory>
     requires in_range { IsRow row }
     requires few { HasRoomFor keeper.old.store.rows keeper.old.tracked
-        (hidden_begin (record { slot = slot; row = row; input = 0 })) }
+        (hidden_begin (record { slot = slot; row = row; input = 0; hidden_by = 0 })) }
     ensures told { OnOk result (TellsNotes
-        (hidden_begin (record { slot = slot; row = row; input = 0 })
-        ∷ hidden_forget (record { slot = slot; row = row; input = 0 }) ∷ [])
+        (hidden_begin (record { slot = slot; row = row; input = 0; hidden_by = 0 })
+        ∷ hidden_forget (record { slot = slot; row = row; input = 0; hidden_by = 0 }) ∷ [])
         keeper.old keeper.new) }
     ensures begun { OnErr result (TellsNotes
-        (hidden_begin (record { slot = slot; row = row; input = 0 }) ∷ []) keeper.old keeper.new
+        (hidden_begin (record { slot = slot; row = row; input = 0; hidden_by = 0 }) ∷ [])
+        keeper.old keeper.new
         ⊎ (keeper.new ≡ keeper.old)) }
 {
     let Row {

@@ -1,10 +1,12 @@
-use Rattle.std.proofs.Common.{◌≡◌, ◌+◌, ◌∙◌, length, take, Option, None, if◌then◌else◌, is_none, ℕ, ap, refl, subst, arith}
-use Rattle.std.proofs.lemmas.List.{length-take}
+use Rattle.std.proofs.Common.{◌≡◌, ◌+◌, ◌∙◌, List, length, take, Option, None, if◌then◌else◌, is_none, ℕ, ap, refl, subst, arith}
+use Rattle.std.proofs.lemmas.List.{length-take, take_all}
 use Rattle.std.proofs.lemmas.Option.{slice_get_read}
 use Rattle.restart_join.specs.Joining.{full_for}
 use Rattle.restart_join.specs.Starts.{start_of}
 use Rattle.wire_base.specs.declared.row.Row.{Row}
+use Rattle.prospect.specs.declared.listed.Listed.{Listed}
 use Rattle.run_steps.specs.BeginFor.{row_of}
+use Rattle.run_steps.specs.Starting.{new_files}
 use Rattle.run_steps.proofs.FewListed.{apart_in_front, few_listed, no_more_listed}
 use Rattle.run_steps.proofs.Starting.{counted_next, few_next, room_next, starts_next}
 use Rattle.run_steps.proofs.starts.starts_of.Goals as goal
@@ -39,4 +41,9 @@ start_at-requires c =
     omega (arith, fewer, length-take c.files.place c.args.listed.now, c.files.invariant.counted, c.files.invariant.few, c.files-test.true)
 
 pub returns-clause-few_listed : goal.returns-clause-few_listed
-returns-clause-few_listed c = few_listed c.args.rows.now c.args.listed.now c.requires.apart _
+returns-clause-few_listed c =
+    let rows = c.args.rows.now in
+    let listed = c.args.listed.now in
+    let whole : take c.files.place listed ≡ listed = take_all c.files.place listed (omega (arith, c.files-test.false)) in
+    let counted = subst (λ (l : List Listed). c.files.files ≡ length rows + new_files rows l) whole c.files.invariant.counted in
+    few_listed rows listed c.requires.apart (omega (arith, counted, c.files.invariant.few))
