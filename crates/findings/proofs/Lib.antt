@@ -1,5 +1,6 @@
 mod Counts
 mod Eaches
+mod Ends
 mod Findings
 mod GlobLists
 mod Sections

@@ -1,5 +1,6 @@
 ghost use Rattle.std.specs.Prelude.{◌≡◌, ◌<◌, ◌≤◌, ◌-◌, ◌^◌, IfErr, IfOk, IfSome, All, length, true, false, []};
-ghost use Rattle.findings.specs.Scanning.{ListsSo, ShowsEnd, IsScanEnd, TellsMarks};
+ghost use Rattle.findings.specs.Scanning.{IsMarksEnd, IsScanEnd, IsTooManyEnd, ListsSo, ShowsEnd, ShowsMarksEnd, TellsMarks};
+ghost use Rattle.prospector_core.specs.declared.limits.TheConstants.{MAX_FILES};
 ghost use Rattle.outside.specs.Counts.{Rose};
 ghost use Rattle.prospect.specs.AskedFiles.{AreAskable};
 ghost use Rattle.prospect.specs.Members.{HaveGlobs};
@@ -7,6 +8,7 @@ ghost use Rattle.prospect.specs.Members.{HaveGlobs};
 use event_tree::InputRule;
 use outside::{Folder, FolderError};
 use prospect::{Keyed, Listed, Parted, ScanError, ask_files, list_files, part_doubled};
+use prospector_core::MAX_FILES;
 use report::Status;
 use std::alloc::Global;
 use wire_base::Full;
@@ -35,10 +37,6 @@ pub(crate) fn listed_files<F: Folder>(
         Err(ScanError::Failed) => Ok(None),
         Err(ScanError::NoMemory) => Err(Status::NoMemory),
         Err(ScanError::NoNative { path }) => Err(Status::NoNative { path }),
-        Err(ScanError::TooMany { path }) => Err(Status::TooMany {
-            what: Full::Files,
-            path,
-        }),
     }
 }
 
@@ -64,7 +62,9 @@ pub(crate) fn marks_of<F: Folder>(
     requires of_inputs { All (λ one. one.input < length inputs.now) listed.items }
     ensures marked { IfOk result (λ marks. IfSome (F.told folder.old)
         (λ told. TellsMarks inputs.now told listed.items marks (F.told folder.new))) }
-    ensures ends { IfErr result (λ status. status ≡ Status.NoMemory) }
+    ensures shows { IfErr result (λ status. IfSome (F.told folder.old)
+        (λ told. ShowsMarksEnd inputs.now told listed.items status (F.told folder.new))) }
+    ensures ends { IfErr result IsMarksEnd }
     ensures failed_only_where_faults_rose { IfOk result (λ marks. marks.failed ≡ true →
         Rose (F.faults folder.old) (F.faults folder.new)) }
     ensures open_tails_kept { F.open_tails folder.old < 2 ^ 64 - 1 →
@@ -73,11 +73,14 @@ pub(crate) fn marks_of<F: Folder>(
 {
     match ask_files(alloc, folder, inputs, listed) {
         Ok(Keyed { files, small, .. }) => match part_doubled(alloc, files) {
-            Ok(Parted { doubled, .. }) => Ok(Marks {
-                small,
-                doubled,
-                failed: false,
-            }),
+            Ok(Parted { files, doubled }) => {
+                few_followed(alloc, files.as_slice())?;
+                Ok(Marks {
+                    small,
+                    doubled,
+                    failed: false,
+                })
+            }
             Err(_) => Err(Status::NoMemory),
         },
         Err(FolderError::Failed) => Ok(Marks {
@@ -87,4 +90,19 @@ pub(crate) fn marks_of<F: Folder>(
         }),
         Err(FolderError::NoMemory) => Err(Status::NoMemory),
     }
+}
+
+/// Whether a run can know so many files. `Err` is `TooMany` with the path of the first file beyond them, and `NoMemory`.
+fn few_followed(alloc: Global, files: &[Listed]) -> Result<(), Status>
+    ensures few { IfOk result (λ _. length files.now ≤ MAX_FILES) }
+    ensures ends { IfErr result (IsTooManyEnd files.now) }
+{
+    if files.len() <= MAX_FILES {
+        return Ok(());
+    }
+    let path = files[MAX_FILES].path.copy(alloc)?;
+    Err(Status::TooMany {
+        what: Full::Files,
+        path,
+    })
 }

@@ -1,6 +1,6 @@
 ghost use Rattle.std.specs.Prelude.{◌≡◌, ◌∷◌, ◌++◌, [], ◌<◌, ◌≤◌, ◌-◌, ◌^◌, All, IfErr, IfOk, IfSome, OnOk, length, true};
 ghost use Rattle.findings.specs.Each.{Each};
-ghost use Rattle.findings.specs.Scanning.{IsScanEnd, ShowsEnd};
+ghost use Rattle.findings.specs.Scanning.{IsMarksEnd, IsScanEnd, ShowsEnd, ShowsMarksEnd};
 ghost use Rattle.findings.specs.Seeing.{AreUnread, IsCount, SeesFiles, SeesGlob, SeesListed, TriesAll, is_there, unread_of};
 ghost use Rattle.outside.specs.Counts.{Rose};
 ghost use Rattle.prospect.specs.AskedFiles.{AreAskable};
@@ -70,7 +70,9 @@ fn see_listed<F: Folder, Y: System>(
     ensures seen { IfOk result (λ files. IfSome (F.told folder.old) (λ told.
         SeesListed (Y.told system.now) inputs.now told listed.items files (F.told folder.new))) }
     ensures globs { IfOk result (λ files. files.globs ≡ globs) }
-    ensures ends { IfErr result (λ status. status ≡ Status.NoMemory) }
+    ensures shows { IfErr result (λ status. IfSome (F.told folder.old)
+        (λ told. ShowsMarksEnd inputs.now told listed.items status (F.told folder.new))) }
+    ensures ends { IfErr result IsMarksEnd }
     ensures failed_only_where_faults_rose { IfOk result (λ files. files.failed ≡ true →
         Rose (F.faults folder.old) (F.faults folder.new)) }
     ensures open_tails_kept { F.open_tails folder.old < 2 ^ 64 - 1 →
