@@ -1,5 +1,9 @@
+mod base;
+mod condition;
+mod events;
 mod lines;
 mod matching;
 mod parts;
 mod payloads;
+mod processor;
 mod trees;

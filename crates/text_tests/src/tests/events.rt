@@ -11,7 +11,7 @@ use std::test::Fail;
 use wire_base::Text;
 
 /// The settings with these processors.
-pub(crate) fn settings(alloc: Global, processors: &str) -> Result<Settings, Fail>
+pub fn settings(alloc: Global, processors: &str) -> Result<Settings, Fail>
     ensures { IfOk result AreInRange }
 {
     let document = format!(in alloc;
@@ -21,7 +21,7 @@ pub(crate) fn settings(alloc: Global, processors: &str) -> Result<Settings, Fail
 }
 
 /// An event with these fields and no other, but a null that settings cannot spell.
-pub(crate) fn event(alloc: Global, fields: &str) -> Result<Tree, Fail> {
+pub fn event(alloc: Global, fields: &str) -> Result<Tree, Fail> {
     let mut event = Fields::new(alloc);
     let none = Text::from_bytes(alloc, b"none")?;
     if event.set(none, Tree::Null).is_err() {
@@ -37,14 +37,14 @@ pub(crate) fn event(alloc: Global, fields: &str) -> Result<Tree, Fail> {
 }
 
 /// What the processors make of the event.
-pub(crate) fn fate(alloc: Global, processors: &str, event: Tree) -> Result<Fate, Fail> {
+pub fn fate(alloc: Global, processors: &str, event: Tree) -> Result<Fate, Fail> {
     let settings = settings(alloc, processors)?;
     let mut chain = Chain::new(alloc, settings.processors.as_slice())?;
     Ok(chain.run(alloc, event)?)
 }
 
 /// The payload of what the processors make of the event, or the rule that drops it.
-pub(crate) fn outcome(alloc: Global, processors: &str, event: Tree) -> Result<String, Fail> {
+pub fn outcome(alloc: Global, processors: &str, event: Tree) -> Result<String, Fail> {
     match fate(alloc, processors, event)? {
         Fate::Ship(event) => {
             let payload = payload(alloc, &event)?.ok_or("too long")?;
