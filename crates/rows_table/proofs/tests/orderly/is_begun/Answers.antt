@@ -1,6 +1,0 @@
-use Rattle.std.proofs.Common.{◌∙◌, sym}
-use Rattle.rows_table.proofs.Begun.{begun}
-use Rattle.rows_table.proofs.tests.orderly.is_begun.Goals as goal
-
-pub returns : goal.returns
-returns c = λ yes. begun c.args.slot c.args.notes.now (sym c.is_any_begin.ensures ∙ yes)
