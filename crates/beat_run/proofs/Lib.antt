@@ -16,6 +16,7 @@ pub mod ScanShown
 pub mod SettingOut
 pub mod SettingsBytes
 pub mod Skipping
+mod StartEnds
 pub mod Untroubled
 pub mod WiresFailed
 mod Worked

@@ -12,8 +12,7 @@ use Rattle.kept_rows.specs.Account.{FollowedTail, SlotAccount}
 use Rattle.kept_rows.specs.Followed.{IsFollowedTail, IsFollowing}
 use Rattle.kept_rows.specs.Run.{Run}
 use Rattle.outside.specs.Files.{File}
-use Rattle.outside.specs.Folders.{Event, Opened}
-use Rattle.outside.specs.declared.history.Sight.{Sight}
+use Rattle.outside.specs.Folders.{Opened}
 use Rattle.told_scans.proofs.Members.{some_is}
 use Rattle.beat_run.specs.WithinLimits.{AllHaveNumbers, HasItsNumbers}
 

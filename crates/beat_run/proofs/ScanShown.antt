@@ -1,12 +1,12 @@
 -- What a scan shows: which files it listed, asked for their keys and parted, and, where it told no files, how far it came.
-use Rattle.std.proofs.Common.{◌≡◌, ◌≤◌, inl, inr, List, [], length, map, All, append-nil, Option, Some, None, IfSome, Result, Ok, Err, IfErr, IfOk, OnErr, refl, sym, ap, subst, ◌∙◌, arith}
+use Rattle.std.proofs.Common.{◌≡◌, inl, inr, List, [], map, All, append-nil, Option, Some, None, IfSome, Result, Ok, Err, IfErr, IfOk, OnErr, refl, sym, ap, subst, ◌∙◌}
 use Rattle.beat_config.specs.InRange.{AreInRange}
 use Rattle.event_tree.specs.declared.input_rule.InputRule.{InputRule}
 use Rattle.event_tree.specs.declared.settings.Settings.{Settings as SettingsOf}
 use Rattle.outside.specs.Folders.{Event, FolderHistory}
 use Rattle.outside.specs.declared.failed.FolderError.{FolderError}
 use Rattle.outside.specs.declared.failed.FolderError.TheVariants.{Failed, NoMemory as WithoutMemory}
-use Rattle.prospect.proofs.Doubled.{each_file, lengths_add}
+use Rattle.prospect.proofs.Doubled.{each_file}
 use Rattle.prospect.specs.AskedFiles.{AskedFile, AsksFiles, AsksSome}
 use Rattle.prospect.specs.Doubled.{PartsDoubled}
 use Rattle.prospect.specs.ListedFiles.{EndsAs, IsKeyed, ScansFiles}

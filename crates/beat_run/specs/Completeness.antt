@@ -1,7 +1,7 @@
 -- When a run has to be done (this project's profile): nothing that it is given is refused or not built, no count of faults rises, the bell
 -- does not ring, files are no more than there may be, have epochs left and the native numbers that are asked for, and peers send nothing
 -- but acknowledgements within their windows, in time as far as the clock tells. Then it ends with `Done`, or for want of memory.
-use Rattle.std.specs.Prelude.{◌≡◌, ◌⊎◌, ◌≤◌, ◌-◌, ℕ, false, List, [], drop, length, slice_get, take, Option, Some, IfSome, IsSomeAnd}
+use Rattle.std.specs.Prelude.{◌≡◌, ◌⊎◌, ◌-◌, ℕ, false, List, [], drop, length, slice_get, take, Option, Some, IfSome, IsSomeAnd}
 use Rattle.std.specs.List.{AllByRecursion}
 use Rattle.batch_worker.specs.Seen.{Seen}
 use Rattle.beat_config.specs.Document.{AreSettingsOf}
@@ -12,9 +12,6 @@ use Rattle.outside.specs.Counts.{Rose}
 use Rattle.outside.specs.Folders.{FolderHistory}
 use Rattle.outside.specs.Wires.{Outcome, Refused, Finished}
 use Rattle.prospect.specs.Lacks.{lacks_of}
-use Rattle.prospect.specs.ListedFiles.{AreApart, AreInOrder, AreOfShown}
-use Rattle.prospect.specs.Members.{globs_of}
-use Rattle.prospect.specs.Scan.{AreListed, Listing}
 use Rattle.prospect.specs.declared.listed.Listed.{Listed}
 use Rattle.report.specs.declared.status.Status.{Status}
 use Rattle.report.specs.declared.status.Status.TheVariants.{Done, NoMemory}

@@ -14,7 +14,7 @@ use Rattle.run_steps.specs.declared.met.Met.{Met}
 use Rattle.run_steps.specs.declared.met.Met.TheVariants as met
 use Rattle.run_steps.specs.declared.registry_error.RegistryError.{RegistryError}
 use Rattle.run_steps.specs.declared.registry_error.RegistryError.TheVariants as registry
-use Rattle.wire_base.specs.declared.limits.Full.TheVariants.{Epochs, Files}
+use Rattle.wire_base.specs.declared.limits.Full.TheVariants.{Epochs}
 use Rattle.beat_run.specs.declared.ending.Ending.{Ending}
 
 abbrev pub ended : Result Ending Status → Status

@@ -1,6 +1,6 @@
 -- Which statuses end which part of the run, and the count that has to have risen where one blames the outside (this
 -- project's profile). A count is given as it was before and as it is now.
-use Rattle.std.specs.Prelude.{◌≡◌, ◌≤◌, ◌⊎◌, ℕ, List, length, Option}
+use Rattle.std.specs.Prelude.{◌≡◌, ◌⊎◌, ℕ, List, Option}
 use Rattle.beat_config.specs.declared.settings_error.SettingsError.{SettingsError}
 use Rattle.event_tree.specs.declared.input_rule.InputRule.{InputRule}
 use Rattle.outside.specs.Folders.{FolderHistory}

@@ -1,6 +1,6 @@
 -- What one scan told (Filebeat reference, filestream input, file identity; this project's profile): which files it listed, what asking
 -- these for their keys came to, and which of those with a key are followed.
-use Rattle.std.specs.Prelude.{◌≡◌, ◌≤◌, All, List, Option, Some, flat_map, length, map}
+use Rattle.std.specs.Prelude.{◌≡◌, All, List, Option, Some, flat_map, map}
 use Rattle.event_tree.specs.declared.input_rule.InputRule.{InputRule}
 use Rattle.outside.specs.Folders.{FolderHistory}
 use Rattle.prospect.specs.AskedFiles.{AskedFile, AsksFrom, AsksSome, gone_by, keyed_by, small_by}

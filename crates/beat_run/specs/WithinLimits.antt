@@ -1,7 +1,7 @@
 -- What a run that tells a report kept within (this project's profile): each file that it listed has the native numbers that its input asks
 -- for; those that are followed, one for each key, are with the rows that its areas gave no more than there may be; and each of them could
 -- be started, in an epoch that there is.
-use Rattle.std.specs.Prelude.{◌≡◌, ◌≤◌, ℕ, List, ◌++◌, length, slice_get, IsSome, Option, Some}
+use Rattle.std.specs.Prelude.{◌≡◌, ℕ, List, ◌++◌, length, slice_get, IsSome, Option, Some}
 use Rattle.std.specs.List.{AllByRecursion}
 use Rattle.event_tree.specs.declared.input_rule.IdentityRule.TheVariants.{Native}
 use Rattle.event_tree.specs.declared.input_rule.InputRule.{InputRule}
