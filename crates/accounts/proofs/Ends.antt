@@ -230,10 +230,10 @@ is_read_to_its_end run placed files opened turned told changed known_from apart 
     let reading : Reading = record { opening = opened.opening; segment = exact.last } in
     let present_told = last_of_each (IsTelling (rules_in h)) h.past h.present is.epochs in
     let ends : SeesTruncationsOf (following_of filed) → whole_lines_end h.rule.lines (life_of opened.file (life_by (part ∷ []))) h.present.start (read_to h.present) ≡ told_to h.present = λ sees.
-        let seen : SeesTruncations sees.last_read (segments_of opened.begin.base kept) = subst (SeesTruncations sees.last_read) (append-nil (segments_of opened.begin.base kept)) sees.seen in
-        let lives = each_reads opened.file told.begun opened.begin.base sees.last_read kept looks on seen in
-        let some = last_reads opened.file sees.last_read exact.front exact.last [] (subst (EachReadsLife opened.file sees.last_read) exact.segments lives) in
-        ends_there h opened.file part (subst (λ (r : InputRule). IsGroupRule r.multiline) (sym is.history.rule) in_range) present_told ended.all_told exact.present some in
+    let seen : SeesTruncations sees.last_read (segments_of opened.begin.base kept) = subst (SeesTruncations sees.last_read) (append-nil (segments_of opened.begin.base kept)) sees.seen in
+    let lives = each_reads opened.file told.begun opened.begin.base sees.last_read kept looks on seen in
+    let some = last_reads opened.file sees.last_read exact.front exact.last [] (subst (EachReadsLife opened.file sees.last_read) exact.segments lives) in
+    ends_there h opened.file part (subst (λ (r : InputRule). IsGroupRule r.multiline) (sym is.history.rule) in_range) present_told ended.all_told exact.present some in
     record {
       slot = slot_in filed;
       one = account_of placed filed;

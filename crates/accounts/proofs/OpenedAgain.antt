@@ -156,10 +156,10 @@ module _ (slot : Slot) where
       let own = settlements_in slot one in
       let before = flat_map (announced_in slot) past in
       ap (λ (l : List Note). own ++ l)
-          (flat_map_both (announced_in slot) past (behind_tellings present later)
-          ∙ ap (λ (l : List Note). before ++ l) (later_notes present later)
-          ∙ sym (append_assoc before (announced_in slot present) rest)
-          ∙ ap (λ (l : List Note). l ++ rest) (sym (flat_map_last (announced_in slot) past present)))
+      (flat_map_both (announced_in slot) past (behind_tellings present later)
+      ∙ ap (λ (l : List Note). before ++ l) (later_notes present later)
+      ∙ sym (append_assoc before (announced_in slot present) rest)
+      ∙ ap (λ (l : List Note). l ++ rest) (sym (flat_map_last (announced_in slot) past present)))
       ∙ sym (append_assoc own (flat_map (announced_in slot) (past ++ present ∷ [])) rest)
 
   notes_both : (so_far next : History) →

@@ -69,9 +69,9 @@ module _ (rows : List Row) where
       by_row more same true is =
           let first = counts 0 one (omega arith) refl is in
           let all = more (omega (arith, first)) (λ earlier other less there none.
-              let before = counts (suc earlier) other (omega (arith, less)) there none in
-              let with_one : new_files rows (one ∷ take earlier listed) ≡ suc (new_files rows (take earlier listed)) = ap (λ (b : Bool). length (if b then one ∷ kept (take earlier listed) else kept (take earlier listed))) is in
-              omega (arith, before, with_one)) in
+          let before = counts (suc earlier) other (omega (arith, less)) there none in
+          let with_one : new_files rows (one ∷ take earlier listed) ≡ suc (new_files rows (take earlier listed)) = ap (λ (b : Bool). length (if b then one ∷ kept (take earlier listed) else kept (take earlier listed))) is in
+          omega (arith, before, with_one)) in
           omega (arith, all)
       by_row more same false is =
           same few (λ earlier other less there none.

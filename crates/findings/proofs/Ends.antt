@@ -12,9 +12,9 @@ use Rattle.wire_base.specs.declared.limits.Full.TheVariants.{Epochs, Files, Slot
 use Rattle.findings.specs.Scanning.{IsTooManyEnd, ShowsMarksEnd}
 
 module _ (inputs : List InputRule) (told : FolderHistory) (listed : List Listed) (after : Option FolderHistory) (keyed : Keyed) (asks : AsksFiles inputs told listed keyed after)
-  (followed doubled : List Listed) (parts : PartsDoubled keyed.files.items followed doubled) where
+    (followed doubled : List Listed) (parts : PartsDoubled keyed.files.items followed doubled) where
   pub too_many_shown : (status : Status) → IsTooManyEnd followed status → ShowsMarksEnd inputs told listed status after
-  too_many_shown (TooMany Files path) too_many = record { keyed = keyed; asks = asks; followed = followed; doubled = doubled; parts = parts; too_many = too_many; }
+  too_many_shown (TooMany Files path) too_many = record { keyed = keyed; asks = asks; followed = followed; doubled = doubled; parts = parts; too_many = too_many }
   too_many_shown (TooMany Epochs path) ends = tt
   too_many_shown (TooMany Slots path) ends = tt
   too_many_shown Done ends = tt

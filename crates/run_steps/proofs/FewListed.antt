@@ -30,9 +30,9 @@ module _ (rows : List Row) where
       by_key fewer_of (Some key) key_is is =
           let without = take_out key keys (of one (inl refl) key key_is (subst (λ (o : Option (List ℕ)). is_none (row_of rows o) ≡ false) key_is is)) in
           let fewer = fewer_of without.rest
-              (λ other there k other_is some. without.others k
-              (λ same. apart.0 (subst (HaveKey others) (sym key_is) (any_in (λ (o : Listed). o.key ≡ Some key) others other there (other_is ∙ ap Some same))))
-              (of other (inr there) k other_is some)) in
+          (λ other there k other_is some. without.others k
+          (λ same. apart.0 (subst (HaveKey others) (sym key_is) (any_in (λ (o : Listed). o.key ≡ Some key) others other there (other_is ∙ ap Some same))))
+          (of other (inr there) k other_is some)) in
           omega (arith, fewer, without.shorter)
 
       by_row : ((more : List (List ℕ)) → HaveRowsOf more others → length others ≤ length more + new_files rows others) → (b : Bool) → is_none (row_of rows one.key) ≡ b → length (one ∷ others) ≤ length keys + length (if b then one ∷ rest else rest)

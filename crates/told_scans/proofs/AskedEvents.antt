@@ -332,7 +332,6 @@ cut_only path before last (inl failed) = subst (λ (l : List Event). HasOnlyAske
 cut_only path before last (inr read) = subst (λ (l : List Event). HasOnlyAsked before (with_events before l)) (sym read.last_is)
     (asked_one_tail before path read.number read.begun read.looks read.faults read.reads)
 
-
 module _ (inputs : List InputRule) where
   failed_only : (one : Listed) (before after : FolderHistory) → FaultsOne inputs one before after → HasOnlyAsked before after
   failed_only one before after faults = subst (HasOnlyAsked before) (sym faults.kept) (cut_only one.path before faults.last (by_case faults.fails))
