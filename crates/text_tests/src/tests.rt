@@ -1,4 +1,3 @@
-mod base;
 mod condition;
 mod events;
 mod lines;

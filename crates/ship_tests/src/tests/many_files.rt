@@ -135,17 +135,19 @@ const UNOPENED_AND_STOPPED: Case = Case {
 };
 
 /// The second file is another than the listed one, and has no numbers.
+const UNNUMBERED_FILE: Start = Start {
+    files: &[
+        ("/w/a.log", b"a\nb\n", &[]),
+        ("/w/b.log", b"c\n", &[Later::Removed(1)]),
+        ("/w/b", b"d\n", &[Later::Renamed(1, "/w/b.log")]),
+    ],
+    numbers: &[(7, 1), (8, 1)],
+    ..NATIVE
+};
+
 const UNNUMBERED: Case = Case {
     name: "a file without numbers takes the path of a listed one",
-    start: Start {
-        files: &[
-            ("/w/a.log", b"a\nb\n", &[]),
-            ("/w/b.log", b"c\n", &[Later::Removed(1)]),
-            ("/w/b", b"d\n", &[Later::Renamed(1, "/w/b.log")]),
-        ],
-        numbers: &[(7, 1), (8, 1)],
-        ..NATIVE
-    },
+    start: UNNUMBERED_FILE,
     wanted: Wanted {
         status: 11,
         rows: Some("file \"filestream::w::native::7-1\" 0 0 \"/w/a.log\"\n"),
@@ -160,13 +162,14 @@ const UNOPENED_AND_UNNUMBERED: Case = Case {
     name: "a file cannot be opened, and then one has no numbers",
     start: Start {
         failing: &[(Object::Folder, 1)],
-        ..UNNUMBERED.start
+        ..UNNUMBERED_FILE
     },
     wanted: Wanted {
         status: 6,
         rows: Some(""),
         printed: "status 6 folder fault\n",
-        ..UNNUMBERED.wanted
+        sent: Sent::Events(0),
+        moment: Some(0),
     },
 };
 
