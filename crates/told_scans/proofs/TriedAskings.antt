@@ -195,7 +195,7 @@ asked_at askings opening there =
 opening_there : (askings : List Asking) (asking : Asking) (opening : ℕ) → Contains askings asking → asking.opening ≡ Some opening → Contains (openings_in askings) opening
 opening_there askings asking opening there at = given_there (λ (asking : Asking). asking.opening) askings asking opening there at
 
-openings_within : (since : ℕ) (told : FolderHistory) (askings : List Asking) → AllByRecursion (IsPlacedIn since told) askings → (opening : ℕ) → Contains (openings_in askings) opening →
+pub openings_within : (since : ℕ) (told : FolderHistory) (askings : List Asking) → AllByRecursion (IsPlacedIn since told) askings → (opening : ℕ) → Contains (openings_in askings) opening →
     (since ≤ opening) × (opening < length told.events)
 openings_within since told askings each opening there = let of = asked_at askings opening there in member_is (IsPlacedIn since told) askings of.asking each of.among opening of.at
 

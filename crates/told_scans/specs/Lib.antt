@@ -3,3 +3,4 @@ pub mod FolderOn
 pub mod OnlyAsked
 pub mod Partial
 pub mod ToldScan
+pub mod ToldScans

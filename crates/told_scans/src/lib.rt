@@ -6,12 +6,19 @@
 //! listing or an asking may have failed: the scan goes on past it. It shows each listed file that has a key, with that key and
 //! under its path, and no other; of several with one key the first path is followed.
 //!
-//! The laws say that a scan without a fault is a whole one, that a partial one never is, and that both show what was listed.
-//! Definitions, laws and lemmas only; nothing here runs.
+//! A run that scans again and again has a list of such scans, one after another (`ToldScans`): before the first, between two
+//! and after the last nothing is listed. One more scan may come at the end, as may more that lists nothing. The run is one
+//! around each of its scans, so what is known of a scan is known of each of them. An opening by which a scan asked for a key
+//! is within that scan; any other one is between scans, or its tail told nothing but reads.
+//!
+//! The laws say that a scan without a fault is a whole one, that a partial one never is, and that both show what was listed;
+//! and that all listings of a run are those of its scans, as they were told. Definitions, laws and lemmas only; nothing here
+//! runs.
 #![tactic(auto)]
 
 mod laws;
 
 pub use laws::{
-    partial_scans_are_never_whole, told_scans_are_whole, told_scans_show_what_was_listed,
+    partial_scans_are_never_whole, told_scans_are_those_of_their_run, told_scans_are_whole,
+    told_scans_go_on, told_scans_show_what_was_listed,
 };
