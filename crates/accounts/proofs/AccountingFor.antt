@@ -1,5 +1,5 @@
 -- A run is accounted for by what is known of it as it ends.
-use Rattle.std.proofs.Common.{◌<◌, Contains, List, [], ◌∷◌, Option, refl}
+use Rattle.std.proofs.Common.{Contains, List, [], ◌∷◌, Option, refl}
 use Rattle.std.specs.List.{AllByRecursion}
 use Rattle.kept_rows.specs.Account.{Place, SlotAccount, slot_of}
 use Rattle.kept_rows.specs.Backed.{AreBacked, AreBegun, AreInRows}
@@ -21,12 +21,11 @@ use Rattle.accounts.proofs.Accounts.{are_filed, are_in_epochs, are_slot_accounts
 use Rattle.accounts.proofs.Acknowledged.{acknowledged_once}
 use Rattle.accounts.proofs.Apart.{EachAdjoins}
 use Rattle.accounts.proofs.Backed.{are_backed}
-use Rattle.accounts.proofs.BegunRows.{are_notes, begun_keys_have_rows, files_apart}
+use Rattle.accounts.proofs.BegunRows.{are_notes}
 use Rattle.accounts.proofs.Beginning.{are_begun}
-use Rattle.accounts.proofs.Following.{are_followed}
 use Rattle.accounts.proofs.HiddenAccounts.{in_rows_with_hidden, sent_with_hidden, slots_with_hidden}
-use Rattle.accounts.proofs.HiddenFollowed.{followed_with_hidden}
-use Rattle.accounts.proofs.HiddenSlots.{accounts_below, has_with_hidden}
+use Rattle.accounts.proofs.HiddenFollowed.{all_followed}
+use Rattle.accounts.proofs.HiddenSlots.{HasOtherSlot, files_have_others, has_with_hidden}
 use Rattle.accounts.proofs.Keeping.{images_hold_kept_rows, rows_are_kept}
 use Rattle.accounts.proofs.OneSlot.{slot_has_epochs}
 use Rattle.accounts.proofs.Openings.{file_in_epochs}
@@ -34,6 +33,7 @@ use Rattle.accounts.proofs.Ordered.{slots_apart, turned_apart}
 use Rattle.accounts.proofs.Orderly.{are_in_rows, member_is}
 use Rattle.accounts.proofs.Places.{have_places}
 use Rattle.accounts.proofs.Sending.{sent_only}
+use Rattle.accounts.proofs.Went.{begun_keys_have_rows, files_went, newest_have_rows}
 
 module _ (run : Run) (files : List Filed) (hiddens : List Hidden) (workers : List Taken) (notes : RunNotes) (told : RunTold run files hiddens workers notes) where
   each_adjoins : (some : List Filed) → AllByRecursion (IsFollowedFile run) some → AllByRecursion (λ (file : Filed). EachAdjoins (tellings_in (turned_in file).history)) some
@@ -55,7 +55,7 @@ module _ (run : Run) (files : List Filed) (hiddens : List Hidden) (workers : Lis
     pub backed : AreBacked account run.trace.wires notes.all
     backed =
         are_backed placed run.trace.wires files (slots_apart 0 files told.followed.slots) (are_filed run files told.followed.each) (acknowledged_in workers) places.well
-        hiddens told.behind notes.all (are_notes run files hiddens workers notes told).each
+        run told.followed.each hiddens told.beside notes.all (are_notes run files hiddens workers notes told).each
 
     hidden_is_begun : (hidden : Hidden) → Contains notes.all (hidden_begin hidden) → Contains (slots_for (hidden_key hidden) notes.all) (hidden_slot hidden)
     hidden_is_begun hidden there =
@@ -68,21 +68,21 @@ module _ (run : Run) (files : List Filed) (hiddens : List Hidden) (workers : Lis
         (are_begun placed notes.all files are.begun)
         (λ hidden there. hidden_is_begun hidden (member_is (λ (h : Hidden). Contains notes.all (hidden_begin h)) hiddens hidden are.hidden_begun there))
 
-    below : AllByRecursion (λ (one : SlotAccount). slot_of one < told.behind.least) (accounts_of placed files)
-    below = accounts_below placed told.behind.least files told.behind.files_below
+    others : AllByRecursion (HasOtherSlot hiddens) (accounts_of placed files)
+    others = files_have_others placed files hiddens told.beside
 
     pub accounts_for : AccountsFor run account notes.all
     accounts_for = record {
-      followed = followed_with_hidden run hiddens told.may_go (accounts_of placed files) told.behind.least below told.behind.slots (files_apart run files hiddens workers notes told placed)
-          (are_followed run told.by placed files told.followed);
-      slots = slots_with_hidden run hiddens told.may_go (accounts_of placed files) (are_slot_accounts run placed files told.followed places.one_each);
-      sent = sent_with_hidden (accounts_of placed files) hiddens run.trace.wires
+      followed = all_followed run hiddens told.may_go told.by placed files told.followed told.beside notes.all told.turns;
+      slots = slots_with_hidden run hiddens told.may_go (accounts_of placed files) (are_slot_accounts run placed files told.followed
+          (files_went run files hiddens workers notes told placed in_rows backed) places.one_each);
+      sent = sent_with_hidden (accounts_of placed files) hiddens others run.trace.wires
           (sent_only placed run.trace.wires files (slots_apart 0 files told.followed.slots) (are_filed run files told.followed.each)
           (turned_apart files told.followed.slots (have_slots run files told.followed.each)) (are_in_epochs run files told.followed.each)
           workers notes.collected told.talks told.fits (told_once run files told.followed));
       orderly = told.mixed.orderly;
-      ends = rows_are_kept account run.opening run.trace.wires notes.all in_rows backed begun;
-      begun = λ rows over. begun_keys_have_rows run files hiddens workers notes told placed rows over;
+      ends = rows_are_kept account run.opening run.trace.wires notes.all in_rows backed begun (newest_have_rows run files hiddens workers notes told placed);
+      begun = λ rows over. begun_keys_have_rows run files hiddens workers notes told placed in_rows backed begun rows over;
       images = images_hold_kept_rows account run.opening run.trace.wires notes.all in_rows backed;
     }
 

@@ -1,14 +1,14 @@
 -- The account that is made of the files of a run is one of the run, slot by slot.
-use Rattle.std.proofs.Common.{◌≡◌, List, [], ◌∷◌, Option, Some}
+use Rattle.std.proofs.Common.{◌≡◌, List, [], ◌∷◌, Option, Some, IfSome}
 use Rattle.std.specs.List.{AllByRecursion, flat_map}
 use Rattle.kept_rows.specs.Account.{Place, SlotAccount}
 use Rattle.kept_rows.specs.Epochs.{AreEpochs}
-use Rattle.kept_rows.specs.Followed.{IsNewlyKnown}
+use Rattle.kept_rows.specs.Lost.{WentBy}
 use Rattle.kept_rows.specs.Premises.{SlotPremises}
 use Rattle.kept_rows.specs.Run.{Run}
 use Rattle.kept_rows.specs.Telling.{AreSlotAccounts, IsSlotAccount}
 use Rattle.wire_base.specs.declared.parcel.Parcel.{Parcel}
-use Rattle.accounts.specs.Filed.{Filed, HasItsSlot, IsFiled, accounts_of, following_of, turned_of}
+use Rattle.accounts.specs.Filed.{Filed, HasItsSlot, IsFiled, account_of, accounts_of, left_in, turned_of}
 use Rattle.accounts.specs.FollowedFile.{AreFollowedFiles, IsFollowedFile}
 use Rattle.accounts.specs.Once.{AreOnce}
 use Rattle.accounts.specs.Same.{same_parcel}
@@ -42,16 +42,19 @@ module _ (run : Run) where
     slots_have_epochs [] each = tt
     slots_have_epochs (file ∷ files) each = (slot_has_epochs run placed file each.0, slots_have_epochs files each.1)
 
-    slots_are_accounts : (files : List Filed) → AllByRecursion (IsFollowedFile run) files → AllByRecursion (λ (file : Filed). IsNewlyKnown run [] (following_of file)) files →
-        AllByRecursion (λ (one : SlotAccount). SlotPremises run one.following → IsSlotAccount run one) (accounts_of placed files)
-    slots_are_accounts [] each new = tt
-    slots_are_accounts (file ∷ files) each new = (slot_is_account run placed file each.0 new.0, slots_are_accounts files each.1 new.1)
+    -- where it left, its row went rightly
+    abbrev pub WentWhereLeft : Filed → Type 0
+    WentWhereLeft file = IfSome (left_in file) (WentBy run run.trace.wires file.opened.rule (account_of placed file))
+
+    slots_are_accounts : (files : List Filed) → AllByRecursion (IsFollowedFile run) files → AllByRecursion WentWhereLeft files → AllByRecursion (λ (one : SlotAccount). SlotPremises run one.following → IsSlotAccount run one) (accounts_of placed files)
+    slots_are_accounts [] each went = tt
+    slots_are_accounts (file ∷ files) each went = (λ premises. slot_is_account run placed file each.0 premises went.0, slots_are_accounts files each.1 went.1)
 
     -- one place has one parcel
-    pub are_slot_accounts : (files : List Filed) → AreFollowedFiles run files →
+    pub are_slot_accounts : (files : List Filed) → AreFollowedFiles run files → AllByRecursion WentWhereLeft files →
         ((parcel other : Parcel) (place : Place) → placed parcel ≡ Some place → placed other ≡ Some place → parcel ≡ other) → AreSlotAccounts run (accounts_of placed files)
-    are_slot_accounts files are one_place = record {
+    are_slot_accounts files are went one_place = record {
       epochs = slots_have_epochs files are.each;
-      each = slots_are_accounts files are.each are.newly_known;
+      each = slots_are_accounts files are.each went;
       places_apart = places_apart placed one_place files (are_filed files are.each) (told_once files are);
     }

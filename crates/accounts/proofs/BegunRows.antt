@@ -1,39 +1,36 @@
--- The notes of a run are those that it told and those that it collected; and the key of each file that was begun has a row among rows over
--- all of them: the one that stands over its slot's notes. One that was hidden has one, or lost it rightly.
-use Rattle.std.proofs.Common.{◌≡◌, ◌⊎◌, inl, inr, ℕ, List, [], ◌∷◌, ◌++◌, Contains, Option, None, Some, refl, sym, ap, ◌∙◌, subst}
-use Rattle.std.specs.List.{AllByRecursion}
+-- The notes of a run are those that it told and those that it collected; and the key of each file that was begun and not removed has a row among
+-- rows over all of them: the one that stands over its slot's notes.
+use Rattle.std.proofs.Common.{◌≡◌, ◌⊎◌, inl, inr, ℕ, ◌<◌, ◌≤◌, List, [], ◌∷◌, ◌++◌, Contains, max, map, Option, None, Some, IsSomeAnd, refl, sym, ap, ◌∙◌, subst, arith}
+use Rattle.std.specs.List.{AllByRecursion, filter, fold}
+use Rattle.std.specs.Option.{is_some}
+use Rattle.std.proofs.lemmas.Bool.{cases_lt}
 use Rattle.std.proofs.lemmas.List.Elements.{Contains-append_cases, Contains-append_left, Contains-append_right}
 use Rattle.std.specs.Prelude.{cond}
 use Rattle.std.specs.Ordering.{is_eq}
 use Rattle.std.specs.declared.cmp.Ordering.{Ordering}
 use Rattle.std.specs.declared.cmp.Ordering.TheVariants.{Equal, Greater, Less}
-use Rattle.kept_rows.proofs.Begun.{row_of_one_slot}
-use Rattle.kept_rows.specs.Account.{Place, SlotAccount, key_of}
-use Rattle.kept_rows.specs.Lost.{IsRightlyLost}
 use Rattle.kept_rows.specs.Run.{Run}
-use Rattle.ship_core.proofs.Members.{first_there, later_there}
-use Rattle.ship_core.specs.RowOver.{Start, notes_of, standing_row}
+use Rattle.ship_core.proofs.Members.{first_there, greatest_least, later_there, least_within, member_within, none_there, passed_there, there_cases, there_passed}
+use Rattle.ship_core.specs.RowOver.{Start, notes_of, row_over, standing_row}
 use Rattle.ship_core.specs.Rows.{find}
-use Rattle.ship_core.specs.RowsOver.{AreRowsOver}
+use Rattle.ship_core.specs.RowsOver.{AreRowsOver, row_among, row_for, row_of_greatest, slots_for}
 use Rattle.wire_base.proofs.ByteOrder.{same_key}
 use Rattle.wire_base.specs.KeyOrder.{compare}
 use Rattle.wire_base.specs.declared.note.Note.{Note}
 use Rattle.wire_base.specs.declared.note.Note.TheVariants.{Begin}
-use Rattle.wire_base.specs.declared.parcel.Parcel.{Parcel}
 use Rattle.wire_base.specs.declared.row.Row.{Row}
-use Rattle.accounts.specs.AccountedFor.{HasItsRow}
-use Rattle.accounts.specs.Filed.{Filed, IsNoted, accounts_of, slot_in, turned_of}
+use Rattle.accounts.specs.Filed.{Filed, IsNoted, Removal, following_of, left_by, slot_in, turned_of}
 use Rattle.accounts.specs.FollowedFile.{key_in}
 use Rattle.accounts.specs.Ground.{HasGround}
-use Rattle.accounts.specs.Hidden.{Hidden, IsApartFrom, hidden_account, hidden_begin, hidden_key, with_hidden}
+use Rattle.accounts.specs.Hidden.{Hidden, hidden_begin, hidden_following}
 use Rattle.accounts.specs.RunTold.{RunNotes, RunTold}
 use Rattle.accounts.specs.Same.{same_note}
 use Rattle.accounts.specs.Taken.{Taken, acknowledged_in}
 use Rattle.accounts.specs.ToldNotes.{AreNotesOf, IsKnownNote, MayTell}
+use Rattle.accounts.proofs.Backing.{mapped_there}
+use Rattle.accounts.proofs.Beginning.{slot_there}
 use Rattle.accounts.proofs.Grounded.{each_has_ground, each_member}
-use Rattle.accounts.proofs.HiddenLost.{lost}
-use Rattle.accounts.proofs.HiddenSlots.{has_with_hidden}
-use Rattle.accounts.proofs.LastNotes.{is_started, none_forgotten, one_slot}
+use Rattle.accounts.proofs.LastNotes.{IsSlotFor, is_started, none_forgotten, whose_slot}
 use Rattle.accounts.proofs.Lists.{each_then}
 use Rattle.accounts.proofs.Often.{often_back, often_contains}
 use Rattle.accounts.proofs.Ordered.{slots_apart}
@@ -67,6 +64,30 @@ found_key key (first ∷ rows) row is = by_case (compare key first.key) refl is 
         let q : Some first ≡ Some row = f in
         let same : first ≡ row = cc in
         ap (λ (r : Row). r.key) (sym same) ∙ sym (same_key key first.key e)
+
+-- the row of the newest slot of a key is the key's
+row_of_newest : (opening : List Row) (notes : List Note) (key : List ℕ) (slot : ℕ) (row : Row) → Contains (slots_for key notes) slot →
+    ((other : ℕ) → Contains (slots_for key notes) other → other ≤ slot) → row_over slot notes ≡ Some row → row_for opening notes key ≡ Some row
+row_of_newest opening notes key slot row there newest is = by_slots (slots_for key notes) there newest
+  where
+    by_greatest : (slots : List ℕ) → Contains slots slot → ((other : ℕ) → Contains slots other → other ≤ slot) → row_of_greatest notes slots ≡ Some row
+    by_greatest [] among most = absurd (none_there slot among)
+    by_greatest (first ∷ others) among most =
+        let within = greatest_least first slot others (most first (first_there first others)) (λ other behind. most other (later_there first other others behind)) in
+        let least = by_place (there_cases first slot others among) in
+        let same : slot ≡ fold max first others = omega (arith, within, least) in
+        subst (λ (n : ℕ). row_over n notes ≡ Some row) same is
+      where
+        by_place : (first ≡ slot) ⊎ Contains others slot → slot ≤ fold max first others
+        by_place (inl here) = let within = least_within first others in omega (arith, within, here)
+        by_place (inr behind) = member_within first others slot behind
+
+    by_slots : (slots : List ℕ) → Contains slots slot → ((other : ℕ) → Contains slots other → other ≤ slot) → row_among opening notes key slots ≡ Some row
+    by_slots [] among most = absurd (none_there slot among)
+    by_slots (first ∷ others) among most =
+        by_greatest (filter (λ (given : ℕ). is_some (row_over given notes)) (first ∷ others))
+        (passed_there (λ (given : ℕ). is_some (row_over given notes)) (first ∷ others) slot among (ap (λ (o : Option Row). is_some o) is))
+        (λ other passes. most other (there_passed (λ (given : ℕ). is_some (row_over given notes)) (first ∷ others) other passes).0)
 
 -- ---- of a run
 
@@ -107,16 +128,6 @@ module _ (run : Run) (files : List Filed) (hiddens : List Hidden) (workers : Lis
           by_part note (Contains-append_cases notes.told notes.collected note
           (often_contains same_note tells_notes (notes.told ++ notes.collected) notes.all note (often_back notes.all (notes.told ++ notes.collected) told.mixed.often) there))
 
-  -- ---- keys
-
-  pub files_apart : (placed : Parcel → Option Place) → AllByRecursion (IsApartFrom hiddens) (accounts_of placed files)
-  files_apart placed = each_apart files (λ file there. there)
-    where
-      each_apart : (some : List Filed) → ((file : Filed) → Contains some file → Contains files file) → AllByRecursion (IsApartFrom hiddens) (accounts_of placed some)
-      each_apart [] among = tt
-      each_apart (file ∷ some) among =
-          (λ hidden there same. told.behind.other_keys file (among file (first_there file some)) hidden there same, each_apart some (λ other there. among other (later_there file other some there)))
-
   -- ---- rows
 
   -- the row that stands over the file's notes is among these
@@ -127,36 +138,27 @@ module _ (run : Run) (files : List Filed) (hiddens : List Hidden) (workers : Lis
     pub base_is : start.base ≡ file.opened.begin.base
     pub of_rows : Contains rows (standing_row (notes_of (slot_in file) notes.all) start)
 
-  pub begun_row : (file : Filed) → Contains files file → (rows : List Row) → AreRowsOver run.opening notes.all rows → IsBegunRow file rows
-  begun_row file among rows over =
+  -- it is the newest slot of its key, since it did not leave
+  none_newer : (file : Filed) → Contains files file → file.removed ≡ None → (slot : ℕ) → Contains (slots_for (key_in file) notes.all) slot → slot ≤ slot_in file
+  none_newer file among stays slot there =
+      by_order (cases_lt (slot_in file) slot) (whose_slot files hiddens (acknowledged_in workers) notes.all (slots_apart 0 files told.followed.slots) told.beside are_notes (key_in file) slot there)
+    where
+      by_order : (slot_in file < slot) ⊎ (slot ≤ slot_in file) → IsSlotFor files hiddens (acknowledged_in workers) notes.all (slots_apart 0 files told.followed.slots) told.beside are_notes (key_in file) slot →
+          slot ≤ slot_in file
+      by_order (inr within) of = within
+      by_order (inl newer) of =
+          let its = Contains-append_left (map following_of files) (map hidden_following hiddens) (following_of file) (mapped_there following_of files file among) in
+          let slot_is = of.slot_is in
+          absurd (subst (λ (o : Option Removal). IsSomeAnd (left_by o) (λ last. last < of.one.known_from)) stays
+          (told.turns.gone (following_of file) of.one its of.among (omega (arith, newer, slot_is)) (sym of.key_is)))
+
+  pub begun_row : (file : Filed) → Contains files file → file.removed ≡ None → (rows : List Row) → AreRowsOver run.opening notes.all rows → IsBegunRow file rows
+  begun_row file among stays rows over =
       let apart = slots_apart 0 files told.followed.slots in
-      let started = is_started files hiddens (acknowledged_in workers) notes.all apart told.behind are_notes file among in
+      let started = is_started files hiddens (acknowledged_in workers) notes.all apart told.beside are_notes file among in
       let start : Start = record { key = key_in file; path = started.path; epoch = file.opened.begin.epoch.0; base = file.opened.begin.base } in
       let row = standing_row (notes_of (slot_in file) notes.all) start in
-      let stands = own_row_stands (slot_in file) notes.all start (none_forgotten files hiddens (acknowledged_in workers) notes.all apart told.behind are_notes file among) started.is in
+      let stands = own_row_stands (slot_in file) notes.all start (none_forgotten files hiddens (acknowledged_in workers) notes.all apart told.beside are_notes file among stays) started.is in
       let found = over.each (key_in file)
-      ∙ row_of_one_slot run.opening notes.all (key_in file) (slot_in file) row
-      (one_slot files hiddens (acknowledged_in workers) notes.all apart told.behind are_notes file among told.followed.keys_apart (told.behind.other_keys file among)) stands in
+      ∙ row_of_newest run.opening notes.all (key_in file) (slot_in file) row (slot_there notes.all file (member_is (IsNoted notes.all) files file are_notes.begun among)) (none_newer file among stays) stands in
       record { start = start; key_is = refl; epoch_is = refl; base_is = refl; of_rows = found_there (key_in file) rows row found }
-
-  module _ (placed : Parcel → Option Place) (rows : List Row) (over : AreRowsOver run.opening notes.all rows) where
-    abbrev HasRowOrLost : SlotAccount → Type 0
-    HasRowOrLost one = HasItsRow rows one ⊎ IsRightlyLost run (with_hidden (accounts_of placed files) hiddens) run.trace.wires (key_of one)
-
-    have_rows : (some : List Filed) → ((file : Filed) → Contains some file → Contains files file) → AllByRecursion HasRowOrLost (accounts_of placed some)
-    have_rows [] among = tt
-    have_rows (file ∷ some) among =
-        let begun = begun_row file (among file (first_there file some)) rows over in (
-          inl (record { row = standing_row (notes_of (slot_in file) notes.all) begun.start; of_rows = begun.of_rows; key_is = begun.key_is }),
-          have_rows some (λ other there. among other (later_there file other some there)),
-        )
-
-    hidden_has_or_lost : (hidden : Hidden) → Contains hiddens hidden → HasRowOrLost (hidden_account hidden)
-    hidden_has_or_lost hidden there = by_row (find (hidden_key hidden) rows) refl
-      where
-        by_row : (o : Option Row) → find (hidden_key hidden) rows ≡ o → HasRowOrLost (hidden_account hidden)
-        by_row None is = inr (lost run hiddens told.may_go (accounts_of placed files) run.trace.wires hidden there (files_apart placed))
-        by_row (Some row) is = inl (record { row = row; of_rows = found_there (hidden_key hidden) rows row is; key_is = found_key (hidden_key hidden) rows row is })
-
-    pub begun_keys_have_rows : AllByRecursion HasRowOrLost (with_hidden (accounts_of placed files) hiddens)
-    begun_keys_have_rows = has_with_hidden HasRowOrLost (accounts_of placed files) hiddens (have_rows files (λ file there. there)) hidden_has_or_lost

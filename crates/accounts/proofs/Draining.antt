@@ -1,7 +1,8 @@
 -- A run that is done drained its folder: each entry that an input covers was skipped, or its file was found with another key, or it has a
 -- row that stands at the end of its last complete line.
-use Rattle.std.proofs.Common.{◌≡◌, ◌⊎◌, inl, inr, ℕ, List, [], ◌∷◌, ◌++◌, Contains, map, Option, Some, refl, sym, ap, subst, ◌∙◌}
+use Rattle.std.proofs.Common.{◌≡◌, ◌⊎◌, inl, inr, ℕ, ◌==◌, List, [], ◌∷◌, ◌++◌, Contains, length, max, map, Option, None, Some, if◌then◌else◌, refl, sym, ap, subst, ◌∙◌, arith}
 use Rattle.std.specs.Prelude.{slice_get}
+use Rattle.std.specs.List.{AllByRecursion}
 use Rattle.event_tree.specs.declared.input_rule.InputRule.{InputRule}
 use Rattle.file_identity.specs.AskedAgain.{HasOtherKey}
 use Rattle.harvester.specs.History.{Changed, History, Telling, told_to}
@@ -9,7 +10,8 @@ use Rattle.kept_rows.specs.Account.{Place, SlotAccount}
 use Rattle.kept_rows.specs.Drained.{HasRow, IsChanged, IsDoneWith, IsDrainedBySlots, IsPassedOver, IsReadToItsEnd}
 use Rattle.kept_rows.specs.Premises.{SeesTruncationsOf}
 use Rattle.kept_rows.specs.Run.{Run, Scan}
-use Rattle.kept_rows.specs.Scans.{IsCovered, ShowsEntry, ShowsFileTo}
+use Rattle.kept_rows.specs.Scans.{IsCovered, ShowsEntry, ShowsFileTo, moment_in}
+use Rattle.kept_rows.specs.Telling.{opening_moment}
 use Rattle.kept_rows.specs.Trace.{IsTail}
 use Rattle.outside.specs.declared.history.Look.{Look}
 use Rattle.outside.specs.declared.history.Shown.{Shown}
@@ -23,7 +25,7 @@ use Rattle.wire_base.specs.declared.parcel.Parcel.{Parcel}
 use Rattle.wire_base.specs.declared.row.Row.{Row}
 use Rattle.accounts.specs.RunDone.{IsAmongFiles, RunDone, IsToldWhole}
 use Rattle.accounts.specs.Accounted.{followed_tail}
-use Rattle.accounts.specs.Filed.{Filed, Opening, account_of, accounts_of, slot_in, tail_by, told_over, turned_in}
+use Rattle.accounts.specs.Filed.{Filed, Opening, Removal, account_of, accounts_of, slot_in, tail_by, told_over, turned_in}
 use Rattle.accounts.specs.FollowedFile.{IsFollowedFile, key_in, tail_of}
 use Rattle.accounts.specs.Hidden.{Hidden, with_hidden}
 use Rattle.accounts.specs.Parted.{kept_looks}
@@ -37,8 +39,9 @@ use Rattle.accounts.proofs.Ends.{is_read_to_its_end}
 use Rattle.accounts.proofs.LastEpoch.{epoch_is, offset_is}
 use Rattle.accounts.proofs.LastNotes.{moment_is}
 use Rattle.accounts.proofs.Lists.{last_of_each}
+use Rattle.accounts.proofs.OneSlot.{known_first}
 use Rattle.accounts.proofs.Openings.{file_epochs, file_in_epochs}
-use Rattle.accounts.proofs.HiddenSlots.{found_with_hidden}
+use Rattle.accounts.proofs.HiddenSlots.{HasOtherSlot, files_have_others, found_with_hidden}
 use Rattle.accounts.proofs.Ordered.{slots_apart, turned_apart}
 use Rattle.accounts.proofs.Orderly.{member_is}
 use Rattle.accounts.proofs.Segmented.{is_lost}
@@ -67,6 +70,18 @@ module _ (run : Run) (scan : Scan) (files : List Filed) (hiddens : List Hidden) 
     abbrev present : Telling
     present = (turned_in file).history.present
 
+    -- the run has no scan but its first
+    known_at_first : file.known_from ≡ 0
+    known_at_first =
+        let none = none_before followed.listed.last.front followed.listed.last.scan followed.listed.last.behind (sym only ∙ followed.listed.last.scans_are) in
+        let known = known_first run placed file followed in
+        omega (arith, none, known)
+      where
+        none_before : (front : List Scan) (other : Scan) (behind : List Scan) → scan ∷ [] ≡ front ++ other ∷ behind → length front ≡ 0
+        none_before [] other behind same = refl
+        none_before (first ∷ []) other behind same = absurd (let q : scan ∷ [] ≡ first ∷ other ∷ behind = same in cc)
+        none_before (first ∷ second ∷ front) other behind same = absurd (let q : scan ∷ [] ≡ first ∷ second ∷ (front ++ other ∷ behind) = same in cc)
+
     -- ---- its row
 
     record IsItsRow (row : Row) : Type 0 where
@@ -83,19 +98,19 @@ module _ (run : Run) (scan : Scan) (files : List Filed) (hiddens : List Hidden) 
         let slots = have_slots run files told.followed.each in
         let are = are_notes run files hiddens workers notes told in
         let within = collected_in_all run files hiddens workers notes told in
-        let begun = begun_row run files hiddens workers notes told file among rows over in
+        let begun = begun_row run files hiddens workers notes told file among whole.stays rows over in
         let epochs = are_in_epochs run files told.followed.each in
-        let epoch = epoch_is files hiddens workers notes.all notes.collected apart told.behind (turned_apart files told.followed.slots slots) epochs slots are within done.settled file among numbered in
+        let epoch = epoch_is files hiddens workers notes.all notes.collected apart told.beside (turned_apart files told.followed.slots slots) epochs slots are within done.settled file among numbered in
         let in_epochs = file_in_epochs run file followed in
         let adjoin : Adjoin present.start (spans_of present.told) =
         last_of_each (λ (t : Telling). Adjoin t.start (spans_of t.told)) (turned_in file).history.past present in_epochs.adjoin in
-        let offset = offset_is files hiddens workers notes.all notes.collected apart told.behind (turned_apart files told.followed.slots slots) epochs slots are within done.settled file among
+        let offset = offset_is files hiddens workers notes.all notes.collected apart told.beside (turned_apart files told.followed.slots slots) epochs slots are within done.settled file among
         begun.start begun.epoch_is begun.base_is numbered epoch adjoin in (
           standing_row (notes_of (slot_in file) notes.all) begun.start,
           record {
             of_rows = begun.of_rows;
             key_is = begun.key_is;
-            moment_so = moment_is files hiddens (acknowledged_in workers) notes.all apart told.behind are file among
+            moment_so = moment_is files hiddens (acknowledged_in workers) notes.all apart told.beside are file among
                 whole.moment.note whole.moment.among whole.moment.slot_is whole.moment.carries;
             epoch_so = epoch;
             offset_so = offset;
@@ -108,9 +123,11 @@ module _ (run : Run) (scan : Scan) (files : List Filed) (hiddens : List Hidden) 
         followed.in_range followed.file_is
         ended row (sym is.key_is) (is.epoch_so ∙ ap (λ (h : History). h.present.epoch) told_once) (is.offset_so ∙ ap (λ (h : History). told_to h.present) told_once)
       where
-        -- it was opened once
-        once_there : Contains files (record { opened = file.opened; turned = file.turned; looks = file.looks; changed = file.changed; known_from = file.known_from; later = [] })
-        once_there = subst (λ (later : List Opening). Contains files (record { opened = file.opened; turned = file.turned; looks = file.looks; changed = file.changed; known_from = file.known_from; later = later })) whole.alone among
+        -- it was opened once, and not removed
+        once_there : Contains files (record { opened = file.opened; turned = file.turned; looks = file.looks; changed = file.changed; known_from = file.known_from; later = []; removed = None })
+        once_there =
+            subst (λ (removed : Option Removal). Contains files (record { opened = file.opened; turned = file.turned; looks = file.looks; changed = file.changed; known_from = file.known_from; later = []; removed = removed })) whole.stays
+            (subst (λ (later : List Opening). Contains files (record { opened = file.opened; turned = file.turned; looks = file.looks; changed = file.changed; known_from = file.known_from; later = later; removed = file.removed })) whole.alone among)
 
         told_once : (turned_in file).history ≡ file.turned.history
         told_once = ap (told_over file.turned.history) whole.alone
@@ -135,7 +152,8 @@ module _ (run : Run) (scan : Scan) (files : List Filed) (hiddens : List Hidden) 
             listed = whole.moment.shown;
             lists = whole.moment.entry;
             same_path = whole.moment.path_is ∙ path_is;
-            moment_is = is.moment_so ∙ whole.moment.changed_is;
+            moment_is = is.moment_so ∙ whole.moment.changed_is
+                ∙ ap (λ (n : ℕ). max (if n == 0 then opening_moment run.opening (key_in file) else 0) (moment_in whole.moment.shown)) known_at_first;
             read = subst (λ (r : InputRule). IsReadToItsEnd SeesTruncationsOf run r (accounts_of placed files) row) rule_same (row_is_read ended row is);
           }
 
@@ -188,6 +206,9 @@ module _ (run : Run) (scan : Scan) (files : List Filed) (hiddens : List Hidden) 
   abbrev account : List SlotAccount
   account = with_hidden (accounts_of placed files) hiddens
 
+  others : AllByRecursion (HasOtherSlot hiddens) (accounts_of placed files)
+  others = files_have_others placed files hiddens told.beside
+
   module _ (rule : InputRule) (shown : Shown) (input : ℕ) where
     changed_with_hidden : IsChanged run rule (accounts_of placed files) scan shown input → IsChanged run rule account scan shown input
     changed_with_hidden changed = record {
@@ -196,7 +217,7 @@ module _ (run : Run) (scan : Scan) (files : List Filed) (hiddens : List Hidden) 
       shows = changed.shows;
       slot = changed.slot;
       one = changed.one;
-      slot_is = found_with_hidden (accounts_of placed files) hiddens changed.slot changed.one changed.slot_is;
+      slot_is = found_with_hidden (accounts_of placed files) hiddens others changed.slot changed.one changed.slot_is;
       key_is = changed.key_is;
       tail = changed.tail;
       of_slot = changed.of_slot;
@@ -214,7 +235,7 @@ module _ (run : Run) (scan : Scan) (files : List Filed) (hiddens : List Hidden) 
     read_with_hidden row read = record {
       slot = read.slot;
       one = read.one;
-      slot_is = found_with_hidden (accounts_of placed files) hiddens read.slot read.one read.slot_is;
+      slot_is = found_with_hidden (accounts_of placed files) hiddens others read.slot read.one read.slot_is;
       key_is = read.key_is;
       epoch = read.epoch;
       epoch_is = read.epoch_is;

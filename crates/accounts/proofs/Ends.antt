@@ -30,12 +30,13 @@ use Rattle.outside.specs.Tails.{TailHistory}
 use Rattle.outside.specs.declared.history.Sight.{Sight}
 use Rattle.ship_core.proofs.Members.{first_there}
 use Rattle.ship_core.specs.CoveredEnd.{last_end}
+use Rattle.slot_parts.proofs.Accounted.{life_read_is}
 use Rattle.slot_parts.proofs.Adjoining.{told_spans_adjoin}
 use Rattle.slot_parts.proofs.Tellings.{has_bytes}
 use Rattle.slot_parts.proofs.Together.{last_same}
 use Rattle.slot_parts.proofs.Within.{ends_at_last_line, none_of_nothing}
 use Rattle.slot_parts.specs.Account.{epoch_account, life_by, reading_of}
-use Rattle.slot_parts.specs.Parts.{EpochParts, Part, Runs, epochs_of, runs_from, with_epoch, with_part}
+use Rattle.slot_parts.specs.Parts.{EpochParts, Part, Runs, epochs_of, last_life_of, runs_from, segments_in, with_epoch, with_part}
 use Rattle.slot_parts.specs.Tellings.{AreNumberedFrom, part_of, parts_of, tellings_in}
 use Rattle.told_events.specs.Licence.{whole_lines_end}
 use Rattle.told_events.specs.Told.{ToldEvent, spans_of}
@@ -160,33 +161,38 @@ module _ (place_of : ℕ → ToldEvent → Option Place) (opening : ℕ) (rule :
 
 -- ---- its bytes
 
-record ReadsSome (file : File) (segment : Segment) : Type 0 where
-  last : ℕ
-  reads : ReadsLife file (last_life last (steps_in segment)) segment
+pub record ReadsSome (file : File) (segment : Segment) : Type 0 where
+  pub last : ℕ
+  pub reads : ReadsLife file (last_life last (steps_in segment)) segment
 
-last_reads : (file : File) (life : ℕ) (front : List Segment) (last : Segment) (more : List Segment) → EachReadsLife file life (front ++ last ∷ more) → ReadsSome file last
+pub last_reads : (file : File) (life : ℕ) (front : List Segment) (last : Segment) (more : List Segment) → EachReadsLife file life (front ++ last ∷ more) → ReadsSome file last
 last_reads file life [] last more each = record { last = life; reads = each.0 }
 last_reads file life (segment ∷ front) last more each = last_reads file (last_life life (steps_in segment)) front last more each.2
 
--- the last event ends at the last complete line of its life
-ends_there : (h : History) (file : File) (part : Part) → IsGroupRule h.rule.multiline → IsTelling (rules_in h) h.present → left_to_tell h ≡ [] → IsReadBy h file h.present part.segment →
+-- the last event ends at the last complete line of its life, which the last part of the epoch read last
+pub ends_there : (h : History) (file : File) (before : List Part) (part : Part) → IsGroupRule h.rule.multiline → IsTelling (rules_in h) h.present → left_to_tell h ≡ [] → IsReadBy h file h.present part.segment →
     ReadsSome file part.segment →
-    whole_lines_end h.rule.lines (life_of file (life_by (part ∷ []))) h.present.start (read_to h.present) ≡ told_to h.present
-ends_there h file part in_range tells all_told read some = by_bytes h.present.bytes refl
+    whole_lines_end h.rule.lines (life_of file (life_by (before ++ part ∷ []))) h.present.start (read_to h.present) ≡ told_to h.present
+ends_there h file before part in_range tells all_told read some = by_bytes h.present.bytes refl
   where
+    of_last : (life : ℕ) (parts : List Part) → last_life_of life (segments_in (parts ++ part ∷ [])) ≡ last_life (last_life_of life (segments_in parts)) (steps_in part.segment)
+    of_last life [] = refl
+    of_last life (first ∷ parts) = of_last (last_life life (steps_in first.segment)) parts
+
     -- the life of which the part read last
-    life_is : part.segment.place < segments.read_to part.segment → life_by (part ∷ []) ≡ last_life some.last (steps_in part.segment)
+    life_is : part.segment.place < segments.read_to part.segment → life_by (before ++ part ∷ []) ≡ last_life some.last (steps_in part.segment)
     life_is bytes =
-        let first = option_map_or (λ (sight : Sight). sight.life) (first_sight_of (reading_of part ∷ [])) 0 in
-        ap (last_life first) (append-nil (steps_in part.segment)) ∙ last_same first some.last part.segment.place (steps_in part.segment) bytes
+        let first = option_map_or (λ (sight : Sight). sight.life) (first_sight_of (map reading_of (before ++ part ∷ []))) 0 in
+        life_read_is first (before ++ part ∷ []) ∙ of_last first before
+        ∙ last_same (last_life_of first (segments_in before)) some.last part.segment.place (steps_in part.segment) bytes
 
     -- where nothing was read, both are its start
     by_bytes : (bytes : List ℕ) → h.present.bytes ≡ bytes →
-        whole_lines_end h.rule.lines (life_of file (life_by (part ∷ []))) h.present.start (read_to h.present) ≡ told_to h.present
+        whole_lines_end h.rule.lines (life_of file (life_by (before ++ part ∷ []))) h.present.start (read_to h.present) ≡ told_to h.present
     by_bytes [] none =
         let start = h.present.start in
-        let nothing : drop start (take (start + length h.present.bytes) (life_of file (life_by (part ∷ [])))) ≡ [] =
-        drop-take start (length h.present.bytes) (life_of file (life_by (part ∷ []))) ∙ ap (λ (l : List ℕ). take (length l) (drop start (life_of file (life_by (part ∷ []))))) none in
+        let nothing : drop start (take (start + length h.present.bytes) (life_of file (life_by (before ++ part ∷ [])))) ≡ [] =
+        drop-take start (length h.present.bytes) (life_of file (life_by (before ++ part ∷ []))) ∙ ap (λ (l : List ℕ). take (length l) (drop start (life_of file (life_by (before ++ part ∷ []))))) none in
         ap (λ (l : List ℕ). row_end start (complete_lines h.rule.lines start l)) nothing
         ∙ sym (ap (λ (l : List ToldEvent). last_end start (spans_of l)) (none_of_nothing (rules_in h) h.present in_range none tells))
     by_bytes (byte ∷ bytes) are =
@@ -195,14 +201,14 @@ ends_there h file part in_range tells all_told read some = by_bytes h.present.by
         let long : length h.present.bytes ≡ length (byte ∷ bytes) = ap length are in
         let more : part.segment.place < segments.read_to part.segment = omega (arith, to, place, long) in
         let has = has_bytes (rules_in h) in_range h file h.present part.segment read tells (last_life some.last (steps_in part.segment)) some.reads more in
-        ends_at_last_line h (life_of file (life_by (part ∷ []))) tells all_told
+        ends_at_last_line h (life_of file (life_by (before ++ part ∷ []))) tells all_told
         (subst (λ (n : ℕ). HasBytes h.present.start h.present.bytes (life_of file n)) (sym (life_is more)) has)
 
 -- ---- the row
 
 -- a file that was opened once and told to its end
 pub is_read_to_its_end : (run : Run) (placed : Parcel → Option Place) (files : List Filed) (opened : Opened) (turned : Turned) (told : TailHistory) (changed known_from : ℕ) →
-    AreDistinct (map slot_in files) → Contains files (record { opened = opened; turned = turned; looks = told.looks; changed = changed; known_from = known_from; later = [] }) →
+    AreDistinct (map slot_in files) → Contains files (record { opened = opened; turned = turned; looks = told.looks; changed = changed; known_from = known_from; later = []; removed = None }) →
     IsToldFile (watch_in run) opened run.trace.moments turned (Some told) → GivesKey opened.rule opened.begin.key opened.begin.path opened.file opened.asked →
     IsGroupRule opened.rule.multiline → slice_get run.trace.files opened.number ≡ Some opened.file →
     IsToldToItsEnd turned.history →
@@ -213,7 +219,7 @@ is_read_to_its_end run placed files opened turned told changed known_from apart 
     let h = (joined_turned turned).history in
     let looked = joined.looked in
     let kept = kept_looks h told.looks in
-    let filed : Filed = record { opened = opened; turned = turned; looks = told.looks; changed = changed; known_from = known_from; later = [] } in
+    let filed : Filed = record { opened = opened; turned = turned; looks = told.looks; changed = changed; known_from = known_from; later = []; removed = None } in
     let exact = read_exactly h (joined_opened opened) told joined.tail.file joined.history.begin joined.history.rule looked joined.history.asked_before opened.asked gave
     (subst MayReopenAt (sym ended.ended) tt) in
     let on = (file_is_read (watch_in run) opened run.trace.moments turned told gave is).on in
@@ -233,7 +239,7 @@ is_read_to_its_end run placed files opened turned told changed known_from apart 
     let seen : SeesTruncations sees.last_read (segments_of opened.begin.base kept) = subst (SeesTruncations sees.last_read) (append-nil (segments_of opened.begin.base kept)) sees.seen in
     let lives = each_reads opened.file told.begun opened.begin.base sees.last_read kept looks on seen in
     let some = last_reads opened.file sees.last_read exact.front exact.last [] (subst (EachReadsLife opened.file sees.last_read) exact.segments lives) in
-    ends_there h opened.file part (subst (λ (r : InputRule). IsGroupRule r.multiline) (sym is.history.rule) in_range) present_told ended.all_told exact.present some in
+    ends_there h opened.file [] part (subst (λ (r : InputRule). IsGroupRule r.multiline) (sym is.history.rule) in_range) present_told ended.all_told exact.present some in
     record {
       slot = slot_in filed;
       one = account_of placed filed;

@@ -4,20 +4,18 @@ use Rattle.std.specs.Prelude.{slice_get}
 use Rattle.std.specs.List.{AllByRecursion, flat_map}
 use Rattle.harvester.specs.History.{History}
 use Rattle.kept_rows.specs.Account.{FollowedTail, Following, Place, SlotAccount}
-use Rattle.kept_rows.specs.Followed.{AreFollowed, AreInTurn, AreRising, HadNoRow, HasWent, IsBegun, IsFollowedTail, IsFollowing, IsGoneBefore, IsNewlyKnown, IsUnknownFrom, OnlyReads, StartsAt, asked_openings, followed_openings, start_of}
-use Rattle.kept_rows.specs.Askings.{AsksInOrder}
+use Rattle.kept_rows.specs.Followed.{AreRising, HadNoRow, HasWent, IsBegun, IsFollowedTail, IsFollowing, IsNewlyKnown, IsUnknownFrom, StartsAt, followed_openings, start_of}
 use Rattle.kept_rows.specs.Run.{Run, Scan}
-use Rattle.kept_rows.specs.Scans.{AreDistinct, IsFirstPath, ShowsFileTo}
+use Rattle.kept_rows.specs.Scans.{IsFirstPath, ShowsFileTo}
 use Rattle.outside.specs.declared.history.Shown.{Shown}
-use Rattle.ship_core.proofs.Members.{first_there, later_there, none_there}
+use Rattle.ship_core.proofs.Members.{first_there, later_there}
 use Rattle.ship_core.specs.Rows.{find}
 use Rattle.wire_base.specs.declared.parcel.Parcel.{Parcel}
 use Rattle.slot_parts.specs.Tails.{tails_of}
-use Rattle.accounts.specs.ByScans.{IsByScans, IsToldScan}
 use Rattle.accounts.specs.Filed.{Filed, Opening, account_of, accounts_of, first_opening, following_of, tail_by, told_both}
-use Rattle.accounts.specs.FollowedFile.{AreFollowedFiles, AreInSlots, AreReopened, BeganEarlier, BeginsThere, IsFollowedFile, begins_by, key_in, openings_in}
+use Rattle.accounts.specs.FollowedFile.{AreInSlots, AreReopened, BeganEarlier, BeginsThere, IsFollowedFile, begins_by, openings_in}
 use Rattle.accounts.specs.Opened.{Opened}
-use Rattle.accounts.proofs.Lists.{each_then, got_behind}
+use Rattle.accounts.proofs.Lists.{got_behind}
 use Rattle.accounts.proofs.NamedKeys.{given_key_of_input}
 use Rattle.accounts.proofs.Openings.{are_one_by_one, first_is_opening, tail_follows}
 
@@ -114,52 +112,18 @@ module _ (run : Run) where
   -- ---- all files
 
   module _ (placed : Parcel → Option Place) where
-    are_following : (files : List Filed) → AllByRecursion (IsFollowedFile run) files → AllByRecursion (IsFollowing run) (followings_of placed files)
+    pub are_following : (files : List Filed) → AllByRecursion (IsFollowedFile run) files → AllByRecursion (λ (one : SlotAccount). IsFollowing run one.following) (accounts_of placed files)
     are_following [] each = tt
     are_following (file ∷ files) each = (is_following run file each.0 placed, are_following files each.1)
 
-    are_rising : (least : ℕ) (files : List Filed) → AreInSlots least files → AreRising least (followings_of placed files)
+    pub are_rising : (least : ℕ) (files : List Filed) → AreInSlots least files → AreRising least (followings_of placed files)
     are_rising least [] slots = tt
     are_rising least (file ∷ files) slots = (slots.0, are_rising (file.opened.begin.slot.0 + 1) files slots.1)
-
-    gone_before_all : (file : Filed) (files : List Filed) → (Contains (map key_in files) (key_in file) → ⊥) → AllByRecursion (IsGoneBefore (account_of placed file).following) (followings_of placed files)
-    gone_before_all file [] apart = tt
-    gone_before_all file (other ∷ files) apart = (
-      λ same. absurd (apart (subst (λ (key : List ℕ). Contains (map key_in (other ∷ files)) key) (sym same) (first_there (key_in other) (map key_in files)))),
-      gone_before_all file files (λ there. apart (later_there (key_in other) (key_in file) (map key_in files) there)),
-    )
-
-    are_in_turn : (files : List Filed) → AreDistinct (map key_in files) → AreInTurn (followings_of placed files)
-    are_in_turn [] apart = tt
-    are_in_turn (file ∷ files) apart = (gone_before_all file files apart.0, are_in_turn files apart.1)
-
-    are_newly_known : (all : List Following) (files : List Filed) → AllByRecursion (λ (file : Filed). IsNewlyKnown run [] (following_of file)) files →
-        AllByRecursion (IsNewlyKnown run all) (followings_of placed files)
-    are_newly_known all [] new = tt
-    are_newly_known all (file ∷ files) new =
-        (newly_among run [] all (following_of file) (λ other none. absurd (none_there other none)) new.0, are_newly_known all files new.1)
 
     later_are : (later : List Opening) → map (λ (tail : FollowedTail). tail.opening) (tails_of (map tail_by later)) ≡ map (λ (one : Opening). one.opened.opening) later
     later_are [] = refl
     later_are (one ∷ later) = ap (λ (l : List ℕ). one.opened.opening ∷ l) (later_are later)
 
-    openings_are : (files : List Filed) → followed_openings (followings_of placed files) ≡ flat_map openings_in files
+    pub openings_are : (files : List Filed) → followed_openings (followings_of placed files) ≡ flat_map openings_in files
     openings_are [] = refl
     openings_are (file ∷ files) = λ k. (file.opened.opening ∷ later_are file.later k) ++ openings_are files k
-
-  -- the files of a run are followed so
-  pub are_followed : IsByScans run → (placed : Parcel → Option Place) (files : List Filed) → AreFollowedFiles run files → AreFollowed run (followings_of placed files)
-  are_followed by placed files are =
-      let openings = openings_are placed files in
-      record {
-        scans = by.scans;
-        asked = by.asked;
-        asks_in_order = each_then (IsToldScan run) (AsksInOrder run) run.scans (λ scan told. told.asks_in_order) by.each;
-        each = are_following placed files are.each;
-        slots_rise = are_rising placed 0 files are.slots;
-        in_turn = are_in_turn placed files are.keys_apart;
-        newly_known = are_newly_known placed (followings_of placed files) files are.newly_known;
-        openings_apart = subst AreDistinct (sym (ap (λ (l : List ℕ). asked_openings run ++ l) openings)) are.openings_apart;
-        openings_serve = λ opening path number begun since is.
-            subst (λ (l : List ℕ). Contains l opening ⊎ OnlyReads run.trace opening) (sym openings) (are.openings_serve opening path number begun since is);
-      }

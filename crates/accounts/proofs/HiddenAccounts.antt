@@ -1,9 +1,9 @@
 -- The account of a run is one with the slots of hidden rows: each of them is accounted for, and what was there is as it was.
-use Rattle.std.proofs.Common.{◌≡◌, inl, ℕ, List, [], ◌∷◌, ◌++◌, Option, Some, None, refl, sym, ap, subst, arith, append-nil, ◌∙◌}
+use Rattle.std.proofs.Common.{◌≡◌, inl, ℕ, Bool, true, false, nat_lt, List, [], ◌∷◌, ◌++◌, Option, Some, None, if◌then◌else◌, refl, sym, ap, subst, arith, ◌∙◌}
 use Rattle.std.specs.List.{AllByRecursion, Contains, flat_map}
 use Rattle.std.specs.Option.{option_map_or}
 use Rattle.kept_rows.proofs.Growing.{each_on, stays_told}
-use Rattle.kept_rows.specs.Account.{AccountedEvent, EpochAccount, Place, SlotAccount, places_in, places_in_epoch}
+use Rattle.kept_rows.specs.Account.{AccountedEvent, EpochAccount, Place, SlotAccount, places_in, places_in_epoch, slot_of}
 use Rattle.kept_rows.specs.Acknowledged.{talks_of}
 use Rattle.kept_rows.specs.Backed.{AreInRows, IsInOneRow}
 use Rattle.kept_rows.specs.Epochs.{AreEpochs, AreNumbered}
@@ -17,37 +17,39 @@ use Rattle.kept_rows.specs.Telling.{AreSlotAccounts, IsSlotAccount}
 use Rattle.kept_rows.specs.Trace.{WireTold}
 use Rattle.wire_base.specs.declared.row.Row.{Row}
 use Rattle.wire_base.specs.declared.talk.Piece.{Piece}
-use Rattle.accounts.specs.Hidden.{Hidden, MayAllGo, MayGo, hidden_account, hidden_accounts, with_hidden}
+use Rattle.accounts.specs.Hidden.{Hidden, MayAllGo, MayGo, hidden_account, put_slot, with_hidden}
 use Rattle.accounts.specs.Numbers.{AreAllCounted, AreNumbersOf, ArePlacedIn, IsPlacedAs, all_events, told_in_slot}
 use Rattle.accounts.proofs.HiddenFollowed.{each_may_go}
-use Rattle.accounts.proofs.HiddenSlots.{found_with_hidden, has_with_hidden}
-use Rattle.accounts.proofs.Lists.{flat_map_both}
+use Rattle.accounts.proofs.HiddenSlots.{HasOtherSlot, found_with_hidden, has_with_hidden}
 use Rattle.accounts.proofs.Numbers.{counted_with, numbers_with}
 
 -- ---- they have no places and no events
 
-hidden_have_no_places : (hiddens : List Hidden) → places_in (hidden_accounts hiddens) ≡ []
-hidden_have_no_places [] = refl
-hidden_have_no_places (hidden ∷ hiddens) = hidden_have_no_places hiddens
+put_adds_none : {B : Type 0} (f : SlotAccount → List B) (one : SlotAccount) (account : List SlotAccount) → f one ≡ [] → flat_map f (put_slot one account) ≡ flat_map f account
+put_adds_none {B} f one [] none = ap (λ (l : List B). l ++ []) none
+put_adds_none {B} f one (first ∷ account) none = by_case (nat_lt (slot_of one) (slot_of first)) (put_adds_none f one account none)
+  where
+    by_case : (b : Bool) → flat_map f (put_slot one account) ≡ flat_map f account →
+        flat_map f (if b then one ∷ first ∷ account else first ∷ put_slot one account) ≡ flat_map f (first ∷ account)
+    by_case true later = ap (λ (l : List B). l ++ flat_map f (first ∷ account)) none
+    by_case false later = ap (λ (l : List B). f first ++ l) later
+
+adds_none : {B : Type 0} (f : SlotAccount → List B) (account : List SlotAccount) (hiddens : List Hidden) → ((hidden : Hidden) → f (hidden_account hidden) ≡ []) →
+    flat_map f (with_hidden account hiddens) ≡ flat_map f account
+adds_none f account [] none = refl
+adds_none f account (hidden ∷ hiddens) none = put_adds_none f (hidden_account hidden) (with_hidden account hiddens) (none hidden) ∙ adds_none f account hiddens none
 
 same_places : (account : List SlotAccount) (hiddens : List Hidden) → places_in (with_hidden account hiddens) ≡ places_in account
-same_places [] hiddens = hidden_have_no_places hiddens
-same_places (one ∷ account) hiddens = ap (λ (l : List Place). flat_map places_in_epoch one.epochs ++ l) (same_places account hiddens)
-
-none_told : (hiddens : List Hidden) → all_events (hidden_accounts hiddens) ≡ []
-none_told [] = refl
-none_told (hidden ∷ hiddens) = none_told hiddens
+same_places account hiddens = adds_none (λ (one : SlotAccount). flat_map places_in_epoch one.epochs) account hiddens (λ hidden. refl)
 
 same_events : (account : List SlotAccount) (hiddens : List Hidden) → all_events (with_hidden account hiddens) ≡ all_events account
-same_events account hiddens =
-    flat_map_both told_in_slot account (hidden_accounts hiddens)
-    ∙ ap (λ (l : List AccountedEvent). all_events account ++ l) (none_told hiddens) ∙ append-nil (all_events account)
+same_events account hiddens = adds_none told_in_slot account hiddens (λ hidden. refl)
 
 pub numbers_with_hidden : (account : List SlotAccount) (hiddens : List Hidden) (shipped dropped : ℕ) → AreNumbersOf account shipped dropped → AreNumbersOf (with_hidden account hiddens) shipped dropped
-numbers_with_hidden account hiddens shipped dropped = numbers_with account (hidden_accounts hiddens) shipped dropped (none_told hiddens)
+numbers_with_hidden account hiddens shipped dropped = numbers_with account (with_hidden account hiddens) shipped dropped (same_events account hiddens)
 
 pub counted_with_hidden : (account : List SlotAccount) (hiddens : List Hidden) → AreAllCounted account → AreAllCounted (with_hidden account hiddens)
-counted_with_hidden account hiddens = counted_with account (hidden_accounts hiddens) (none_told hiddens)
+counted_with_hidden account hiddens = counted_with account (with_hidden account hiddens) (same_events account hiddens)
 
 pub placed_with_hidden : (account : List SlotAccount) (hiddens : List Hidden) (wires : List WireTold) → ArePlacedIn account wires → ArePlacedIn (with_hidden account hiddens) wires
 placed_with_hidden account hiddens wires are = record {
@@ -60,7 +62,7 @@ placed_with_hidden account hiddens wires are = record {
 
 hidden_is_numbered : (hidden : Hidden) → AreNumbered (hidden_account hidden)
 hidden_is_numbered hidden = record {
-  first = record { epoch = hidden.row.epoch.0; start = hidden.row.offset; life = 0; readings = []; licences = []; told = [] };
+  first = record { epoch = hidden.start.epoch; start = hidden.start.base; life = 0; readings = []; licences = []; told = [] };
   later = [];
   epochs_are = refl;
   first_epoch = refl;
@@ -131,18 +133,20 @@ same_epochs : (epochs : List EpochAccount) → EpochsGoOn EpochGoesOn epochs epo
 same_epochs [] = tt
 same_epochs (epoch ∷ epochs) = (record { same_epoch = refl; same_start = refl; told = same_told epoch.told }, same_epochs epochs)
 
-goes_on_with_hidden : (account : List SlotAccount) (hiddens : List Hidden) → AccountGoesOn account (with_hidden account hiddens)
-goes_on_with_hidden account hiddens slot one is = record {
+goes_on_with_hidden : (account : List SlotAccount) (hiddens : List Hidden) → AllByRecursion (HasOtherSlot hiddens) account → AccountGoesOn account (with_hidden account hiddens)
+goes_on_with_hidden account hiddens apart slot one is = record {
   now = one;
-  is = found_with_hidden account hiddens slot one is;
+  is = found_with_hidden account hiddens apart slot one is;
   on = record { same_slot = refl; same_key = refl; epochs = same_epochs one.epochs };
 }
 
-talk_with_hidden : (account : List SlotAccount) (hiddens : List Hidden) (talk : Option (List Piece)) → IsSentOnly account talk → IsSentOnly (with_hidden account hiddens) talk
-talk_with_hidden account hiddens None sent = tt
-talk_with_hidden account hiddens (Some talk) sent = stays_told account (with_hidden account hiddens) talk (goes_on_with_hidden account hiddens) sent
+talk_with_hidden : (account : List SlotAccount) (hiddens : List Hidden) → AllByRecursion (HasOtherSlot hiddens) account → (talk : Option (List Piece)) → IsSentOnly account talk →
+    IsSentOnly (with_hidden account hiddens) talk
+talk_with_hidden account hiddens apart None sent = tt
+talk_with_hidden account hiddens apart (Some talk) sent = stays_told account (with_hidden account hiddens) talk (goes_on_with_hidden account hiddens apart) sent
 
-pub sent_with_hidden : (account : List SlotAccount) (hiddens : List Hidden) (wires : List WireTold) → SendOnlyTold account wires → SendOnlyTold (with_hidden account hiddens) wires
-sent_with_hidden account hiddens wires sent =
+pub sent_with_hidden : (account : List SlotAccount) (hiddens : List Hidden) → AllByRecursion (HasOtherSlot hiddens) account → (wires : List WireTold) → SendOnlyTold account wires →
+    SendOnlyTold (with_hidden account hiddens) wires
+sent_with_hidden account hiddens apart wires sent =
     each_on (λ (wire : WireTold). AllByRecursion (IsSentOnly account) (talks_of wire)) (λ (wire : WireTold). AllByRecursion (IsSentOnly (with_hidden account hiddens)) (talks_of wire))
-    (λ wire each. each_on (IsSentOnly account) (IsSentOnly (with_hidden account hiddens)) (talk_with_hidden account hiddens) (talks_of wire) each) wires sent
+    (λ wire each. each_on (IsSentOnly account) (IsSentOnly (with_hidden account hiddens)) (talk_with_hidden account hiddens apart) (talks_of wire) each) wires sent

@@ -1,5 +1,5 @@
 -- The files of a run in the order of their slots, each with what was told of it, wherever its harvester stood.
-use Rattle.std.proofs.Common.{◌≡◌, ◌⊎◌, inl, inr, ℕ, ◌+◌, ◌≤◌, ◌==◌, Bool, List, [], ◌∷◌, ◌++◌, Contains, map, Some, refl, sym, ap, subst, ◌∙◌, arith}
+use Rattle.std.proofs.Common.{◌≡◌, ◌⊎◌, inl, inr, ℕ, ◌+◌, ◌≤◌, ◌==◌, Bool, List, [], ◌∷◌, ◌++◌, Contains, map, None, Some, refl, sym, ap, subst, ◌∙◌, arith}
 use Rattle.std.specs.List.{AllByRecursion, flat_map}
 use Rattle.std.proofs.lemmas.Bool.{eq-eqb, eqb-true}
 use Rattle.std.proofs.lemmas.List.Elements.{Contains-append_cases, Contains-append_left, Contains-append_right}
@@ -36,7 +36,7 @@ tells_slots = record {
 }
 
 module _ (looks : Opened → List Look) (changed : Opened → ℕ) where
-  -- it has what its tail told and what was noted of it, was told of its slot, is known from the first scan on, and was opened once
+  -- it has what its tail told and what was noted of it, was told of its slot, is known from the first scan on, was opened once, and was not removed
   pub record IsJoined (told : List Turned) (file : Filed) : Type 0 where
     pub looks_are : file.looks ≡ looks file.opened
     pub changed_is : file.changed ≡ changed file.opened
@@ -44,6 +44,7 @@ module _ (looks : Opened → List Look) (changed : Opened → ℕ) where
     pub among : Contains told file.turned
     pub known_is : file.known_from ≡ 0
     pub alone : file.later ≡ []
+    pub stays : file.removed ≡ None
 
   pub record AreJoined (opened : List Opened) (told : List Turned) : Type 0 where
     pub files : List Filed
@@ -56,7 +57,7 @@ module _ (looks : Opened → List Look) (changed : Opened → ℕ) where
       AllByRecursion (IsJoined (front ++ turned ∷ behind)) files
   still_joined front behind turned [] each = tt
   still_joined front behind turned (file ∷ files) each = (
-    record { looks_are = each.0.looks_are; changed_is = each.0.changed_is; slot = each.0.slot; among = by_part (Contains-append_cases front behind file.turned each.0.among); known_is = each.0.known_is; alone = each.0.alone },
+    record { looks_are = each.0.looks_are; changed_is = each.0.changed_is; slot = each.0.slot; among = by_part (Contains-append_cases front behind file.turned each.0.among); known_is = each.0.known_is; alone = each.0.alone; stays = each.0.stays },
     still_joined front behind turned files each.1,
   )
     where
@@ -75,7 +76,7 @@ module _ (looks : Opened → List Look) (changed : Opened → ℕ) where
   join_one one opened turned front behind slot often join_others =
       let others = join_others (front ++ behind) fewer in
       record {
-        files = record { opened = one; turned = turned; looks = looks one; changed = changed one; known_from = 0; later = [] } ∷ others.files;
+        files = record { opened = one; turned = turned; looks = looks one; changed = changed one; known_from = 0; later = []; removed = None } ∷ others.files;
         opened_are = ap (λ (l : List Opened). one ∷ l) others.opened_are;
         turned_are = λ h.
             let later = others.turned_are h in
@@ -90,6 +91,7 @@ module _ (looks : Opened → List Look) (changed : Opened → ℕ) where
             among = Contains-append_right front (turned ∷ behind) turned (first_there turned behind);
             known_is = refl;
             alone = refl;
+            stays = refl;
           },
           still_joined front behind turned others.files others.each,
         );

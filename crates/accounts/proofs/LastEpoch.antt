@@ -25,7 +25,7 @@ use Rattle.slot_parts.specs.Tellings.{tellings_in}
 use Rattle.accounts.specs.RunDone.{AreAllCollected}
 use Rattle.accounts.specs.Filed.{Filed, HasItsSlot, IsNoted, slot_in, turned_in, turned_of}
 use Rattle.accounts.specs.Ground.{HasGround, IsEpochOf, IsNoteBy}
-use Rattle.accounts.specs.Hidden.{AreBehind, Hidden}
+use Rattle.accounts.specs.Hidden.{AreBeside, Hidden}
 use Rattle.accounts.specs.ToldNotes.{AreNotesOf}
 use Rattle.accounts.specs.Same.{same_note, same_parcel}
 use Rattle.accounts.specs.Taken.{Taken, acknowledged_in}
@@ -74,7 +74,7 @@ present_begins start epoch base (first ∷ past) present number place are =
     ap (λ (b : Bool). if b then start.base else 0) (ne_eqb present.epoch start.epoch (λ same. omega (arith, later, same, number)))
     ∙ sym (last_of_each (λ (t : Telling). t.start ≡ 0) past present (starts_at_none epoch (past ++ present ∷ []) are.2))
 
-module _ (files : List Filed) (hiddens : List Hidden) (workers : List Taken) (notes collected : List Note) (apart : AreDistinct (map slot_in files)) (behind : AreBehind files hiddens)
+module _ (files : List Filed) (hiddens : List Hidden) (workers : List Taken) (notes collected : List Note) (apart : AreDistinct (map slot_in files)) (beside : AreBeside files hiddens)
     (turned_apart : AreDistinct (map (λ (turned : Turned). turned.slot.0) (turned_of files))) (epochs : AllByRecursion IsInEpochs (turned_of files))
     (own : AllByRecursion HasItsSlot files) (are : AreNotesOf files hiddens (acknowledged_in workers) notes) (within : (note : Note) → Contains collected note → Contains notes note)
     (settled : AreAllCollected (turned_of files) workers collected) where
@@ -169,7 +169,7 @@ module _ (files : List Filed) (hiddens : List Hidden) (workers : List Taken) (no
 
       epoch_within : (note : Note) (epoch : ℕ) → Contains notes note → slot_of note ≡ slot_in file → epoch_of note ≡ Some epoch → epoch ≤ present.epoch
       epoch_within note epoch there slot names =
-          own_note files hiddens (acknowledged_in workers) notes apart behind are file among (λ (n : Note). epoch_of n ≡ Some epoch → slot_of n ≡ slot_in file → epoch ≤ present.epoch)
+          own_note files hiddens (acknowledged_in workers) notes apart beside are file among (λ (n : Note). epoch_of n ≡ Some epoch → slot_of n ≡ slot_in file → epoch ≤ present.epoch)
           (λ n begin e of_slot.
           let is = some_is file.opened.begin.epoch.0 epoch (sym (ap epoch_of begin.is) ∙ e) in
           let least = first_within file.opened.begin.epoch.0 file.opened.begin.base (turned_in file).history.past present numbered in
@@ -182,6 +182,8 @@ module _ (files : List Filed) (hiddens : List Hidden) (workers : List Taken) (no
           let most = epochs_within file.opened.begin.epoch.0 file.opened.begin.base (turned_in file).history.past present of.telling numbered
           (subst (λ (t : Turned). Contains (tellings_in t.history) of.telling) same of.of.of_file) in
           omega (arith, is, most))
+          (λ n named e of_slot. absurd (let q : None ≡ Some epoch = sym (ap epoch_of named.is) ∙ e in cc))
+          (λ n forget e of_slot. let is = some_is present.epoch epoch (sym (ap epoch_of forget.is) ∙ e) in omega (arith, is))
           note there slot names slot
 
       present_named : (noted : IsNoted notes file) → Contains (filter_map epoch_of own_notes) present.epoch
@@ -223,7 +225,7 @@ module _ (files : List Filed) (hiddens : List Hidden) (workers : List Taken) (no
         let found = there_given (span_in present.epoch) own_notes span there in
         let passed = there_passed (λ (n : Note). slot_of n == slot_in file) notes found.0 found.1 in
         let slot = eqb-true (slot_of found.0) (slot_in file) passed.1 in
-        own_note files hiddens (acknowledged_in workers) notes apart behind are file among
+        own_note files hiddens (acknowledged_in workers) notes apart beside are file among
         (λ (n : Note). span_in present.epoch n ≡ Some span → slot_of n ≡ slot_in file → Contains (spans_of present.told) span)
         (λ n begin is of_slot. absurd (let q : None ≡ Some span = sym (ap (span_in present.epoch) begin.is) ∙ is in cc))
         (λ n seen same is of_slot. absurd (let q : None ≡ Some span = sym (ap (span_in present.epoch) seen.is) ∙ is in cc))
@@ -234,6 +236,8 @@ module _ (files : List Filed) (hiddens : List Hidden) (workers : List Taken) (no
         (of.slot_is ∙ sym slot_is) of.epoch_is in
         subst (λ (e : Extent). Contains (spans_of present.told) e) of.span_is
         (mapped_there (λ (one : ToldEvent). one.span) present.told of.event (subst (λ (t : Telling). Contains t.told of.event) telling of.told)))
+        (λ n named is of_slot. absurd (let q : None ≡ Some span = sym (ap (span_in present.epoch) named.is) ∙ is in cc))
+        (λ n forget is of_slot. absurd (let q : None ≡ Some span = sym (ap (span_in present.epoch) forget.is) ∙ is in cc))
         found.0 passed.0 slot found.2 slot
 
     -- the covered end of what its notes settle is where the last event ends

@@ -1,6 +1,6 @@
 -- What the notes of a done run say of each of its files: which slot its key has, with what it begins, which epoch and moment are the
 -- greatest that they name, and which spans they settle of its last epoch.
-use Rattle.std.proofs.Common.{◌≡◌, ◌⊎◌, inl, inr, ℕ, ◌+◌, ◌==◌, ◌<◌, ◌≤◌, Bool, false, List, [], ◌∷◌, ◌++◌, Contains, map, Option, None, Some, refl, sym, ap, subst, ◌∙◌, arith, if◌then◌else◌}
+use Rattle.std.proofs.Common.{◌≡◌, ◌⊎◌, inl, inr, ℕ, ◌+◌, ◌==◌, ◌<◌, ◌≤◌, Bool, List, [], ◌∷◌, ◌++◌, Contains, map, None, Some, refl, sym, ap, subst, ◌∙◌, arith, if◌then◌else◌}
 use Rattle.std.specs.List.{AllByRecursion, filter_map, flat_map}
 use Rattle.std.specs.Ordering.{is_eq}
 use Rattle.std.specs.declared.cmp.Ordering.{Ordering}
@@ -9,6 +9,7 @@ use Rattle.std.proofs.lemmas.Bool.{eq-eqb, eqb-true}
 use Rattle.std.proofs.lemmas.List.Elements.{Contains-append_left, Contains-append_right, filter-append}
 use Rattle.harvester.specs.History.{Telling}
 use Rattle.kept_rows.proofs.Begun.{ForgetNone, IsNoForget}
+use Rattle.kept_rows.specs.Account.{Following}
 use Rattle.kept_rows.specs.Scans.{AreDistinct}
 use Rattle.ship_core.proofs.Members.{first_there, given_there, greatest_least, later_there, member_within, none_there, passed_there, there_cases, there_given, there_passed}
 use Rattle.ship_core.specs.RowOver.{Start, greatest_moment, moment_of, notes_of, slot_of, start_over}
@@ -19,18 +20,18 @@ use Rattle.wire_base.specs.declared.note.Note.{Note}
 use Rattle.wire_base.specs.declared.note.Note.TheVariants.{Announce, Begin, Forget, Rename, Seen, Settle}
 use Rattle.wire_base.specs.declared.numbers.Slot.{Slot}
 use Rattle.wire_base.specs.declared.parcel.Parcel.{Parcel}
-use Rattle.accounts.specs.Filed.{Filed, IsNoted, slot_in, turned_of}
-use Rattle.accounts.specs.Hidden.{AreBehind, Hidden, hidden_begin, hidden_forget, hidden_key, hidden_slot}
-use Rattle.accounts.specs.ToldNotes.{AreNotesOf, IsBeginOf, IsKnownNote, IsMomentOfOne, IsOfHidden}
+use Rattle.accounts.specs.Filed.{Filed, IsNoted, following_of, slot_in, turned_of}
+use Rattle.accounts.specs.Hidden.{AreBeside, Hidden, hidden_begin, hidden_following, hidden_forget, hidden_key, hidden_slot}
+use Rattle.accounts.specs.ToldNotes.{AreNotesOf, IsBeginOf, IsForgetOf, IsKnownNote, IsMomentOfOne, IsNamingOf, IsOfFile, IsOfHidden}
 use Rattle.accounts.specs.FollowedFile.{key_in}
+use Rattle.accounts.specs.RunTold.{all_slots}
 use Rattle.accounts.specs.Ground.{HasGround}
 use Rattle.slot_parts.specs.Tellings.{AreNumberedFrom}
 use Rattle.accounts.specs.ToldFile.{AreEpochsFrom}
 use Rattle.accounts.specs.Turned.{announced_in, notes_in, settlements_in}
-use Rattle.accounts.proofs.Beginning.{slot_there}
+use Rattle.accounts.proofs.Backing.{mapped_there}
 use Rattle.accounts.proofs.Grounded.{each_member}
-use Rattle.accounts.proofs.HiddenSlots.{hidden_from}
-use Rattle.accounts.proofs.OwnNotes.{only_slot, slot_begun, slots_begin_once}
+use Rattle.accounts.proofs.OwnNotes.{slot_begun}
 use Rattle.accounts.proofs.Parts.{parts_at}
 use Rattle.accounts.proofs.Ordered.{IsCollectable, is_collectable}
 use Rattle.accounts.proofs.Orderly.{member_is, same_item}
@@ -47,25 +48,13 @@ flat_there f (first ∷ xs) x y among there = by_case (there_cases first x xs am
 
 -- ---- which slot a key has
 
-pub not_equal : (key other : List ℕ) → (key ≡ other → ⊥) → is_eq (compare key other) ≡ false
-not_equal key other apart = by_case (compare key other) refl
-  where
-    by_case : (o : Ordering) → compare key other ≡ o → is_eq o ≡ false
-    by_case Less e = refl
-    by_case Greater e = refl
-    by_case Equal e = absurd (apart (same_key key other e))
-
-same_key_or_not : (key other : List ℕ) → (key ≡ other) ⊎ (key ≡ other → ⊥)
+pub same_key_or_not : (key other : List ℕ) → (key ≡ other) ⊎ (key ≡ other → ⊥)
 same_key_or_not key other = by_case (compare key other) refl
   where
     by_case : (o : Ordering) → compare key other ≡ o → (key ≡ other) ⊎ (key ≡ other → ⊥)
     by_case Less e = inr (λ same. let q : Less ≡ Equal = sym e ∙ compare_same key other same in cc)
     by_case Greater e = inr (λ same. let q : Greater ≡ Equal = sym e ∙ compare_same key other same in cc)
     by_case Equal e = inl (same_key key other e)
-
-pub begin_of_other : (key : List ℕ) (file : Filed) (note : Note) → (key ≡ key_in file → ⊥) → IsBeginOf file note → slot_for key note ≡ None
-begin_of_other key file note apart is =
-    ap (slot_for key) is.is ∙ ap (λ (b : Bool). if b then Some (slot_in file) else None) (not_equal key (key_in file) apart)
 
 -- ---- kinds of notes
 
@@ -171,7 +160,7 @@ settlement_there slot (first ∷ later) telling note among there = by_case (ther
 
 -- ---- of a run
 
-module _ (files : List Filed) (hiddens : List Hidden) (acknowledged : List Parcel) (notes : List Note) (apart : AreDistinct (map slot_in files)) (behind : AreBehind files hiddens)
+module _ (files : List Filed) (hiddens : List Hidden) (acknowledged : List Parcel) (notes : List Note) (apart : AreDistinct (map slot_in files)) (beside : AreBeside files hiddens)
     (are : AreNotesOf files hiddens acknowledged notes) where
   -- where a note of them stands, and whose it is
   module _ (file : Filed) (among : Contains files file) where
@@ -183,72 +172,40 @@ module _ (files : List Filed) (hiddens : List Hidden) (acknowledged : List Parce
 
     -- no hidden row has its slot
     not_hidden : (hidden : Hidden) → Contains hiddens hidden → hidden_slot hidden ≡ slot_in file → ⊥
-    not_hidden hidden there same =
-        let less = member_is (λ (f : Filed). slot_in f < behind.least) files file behind.files_below among in
-        let from = hidden_from behind.least hiddens hidden behind.slots there in
-        omega (arith, less, from, same)
+    not_hidden hidden there same = beside.other_slots file among hidden there (sym same)
 
     -- a note of the file: its Begin, a moment of it, or one that has its ground in what files told
     pub own_note : (P : Note → Type 0) →
         ((note : Note) → IsBeginOf file note → P note) → ((note : Note) (seen : IsMomentOfOne files note) → seen.file ≡ file → P note) →
-        ((note : Note) → HasGround (turned_of files) acknowledged note → P note) →
+        ((note : Note) → HasGround (turned_of files) acknowledged note → P note) → ((note : Note) → IsNamingOf file note → P note) → ((note : Note) → IsForgetOf file note → P note) →
         (note : Note) → Contains notes note → slot_of note ≡ slot_in file → P note
-    own_note P begin seen ground note there slot = by_kind (member_is (IsKnownNote files hiddens acknowledged) notes note are.each there)
+    own_note P begin seen ground named forgotten note there slot = by_kind (member_is (IsKnownNote files hiddens acknowledged) notes note are.each there)
       where
         of_hidden : (of : IsOfHidden hiddens note) → (note ≡ hidden_begin of.hidden) ⊎ (note ≡ hidden_forget of.hidden) → P note
         of_hidden of (inl is) = absurd (not_hidden of.hidden of.of_hiddens (ap slot_of (sym is) ∙ slot))
         of_hidden of (inr is) = absurd (not_hidden of.hidden of.of_hiddens (ap slot_of (sym is) ∙ slot))
+
+        of_file : (of : IsOfFile files note) → IsNamingOf of.file note ⊎ IsForgetOf of.file note → P note
+        of_file of (inl is) = named note (subst (λ (f : Filed). IsNamingOf f note) (slot_names of.file of.of_files (ap slot_of (sym is.is) ∙ slot)) is)
+        of_file of (inr is) = forgotten note (subst (λ (f : Filed). IsForgetOf f note) (slot_names of.file of.of_files (ap slot_of (sym is.is) ∙ slot)) is)
 
         by_kind : IsKnownNote files hiddens acknowledged note → P note
         by_kind (inl (inl of)) =
             let same : of.file ≡ file = slot_names of.file of.of_files (ap slot_of (sym of.begins.is) ∙ slot) in
             begin note (subst (λ (f : Filed). IsBeginOf f note) same of.begins)
         by_kind (inl (inr (inl of))) = seen note of (slot_names of.file of.of_files (ap slot_of (sym of.is) ∙ slot))
-        by_kind (inl (inr (inr of))) = of_hidden of of.is
+        by_kind (inl (inr (inr (inl of)))) = of_hidden of of.is
+        by_kind (inl (inr (inr (inr of)))) = of_file of of.is
         by_kind (inr has) = ground note has
 
-    -- ---- nothing of it is forgotten
+    -- ---- nothing of it is forgotten, where it was not removed
 
-    pub none_forgotten : ForgetNone own_notes
-    none_forgotten = each_member IsNoForget own_notes (λ note there.
+    pub none_forgotten : file.removed ≡ None → ForgetNone own_notes
+    none_forgotten stays = each_member IsNoForget own_notes (λ note there.
         let passed = there_passed (λ (n : Note). slot_of n == slot_in file) notes note there in
         own_note IsNoForget (λ n begin. subst IsNoForget (sym begin.is) tt) (λ n seen same. subst IsNoForget (sym seen.is) tt)
-        (λ n ground. no_forget n (is_collectable (turned_of files) acknowledged n ground)) note passed.0 (eqb-true (slot_of note) (slot_in file) passed.1))
-
-    -- ---- its slot
-
-    pub one_slot : AreDistinct (map key_in files) → ((hidden : Hidden) → Contains hiddens hidden → key_in file ≡ hidden_key hidden → ⊥) → slots_for (key_in file) notes ≡ slot_in file ∷ []
-    one_slot keys others = only_slot (slot_in file) (slots_for (key_in file) notes) (slots_begin_once (key_in file) notes are.orderly)
-        (each_member (λ (one : ℕ). one ≡ slot_in file) (slots_for (key_in file) notes) each_is) (slot_there notes file (member_is (IsNoted notes) files file are.begun among))
-      where
-        none_is_some : (o : Option ℕ) (one : ℕ) → o ≡ None → o ≡ Some one → one ≡ slot_in file
-        none_is_some o one none some = absurd (let q : None ≡ Some one = sym none ∙ some in cc)
-
-        each_is : (one : ℕ) → Contains (slots_for (key_in file) notes) one → one ≡ slot_in file
-        each_is one there =
-            let of = there_given (slot_for (key_in file)) notes one there in
-            by_kind of.0 of.2 (member_is (IsKnownNote files hiddens acknowledged) notes of.0 are.each of.1)
-          where
-            other_begin : (key : List ℕ) (note : Note) (other : Filed) → Contains files other → IsBeginOf other note → (b : (key_in file ≡ key_in other) ⊎ (key_in file ≡ key_in other → ⊥)) →
-                slot_for (key_in file) note ≡ Some one → one ≡ slot_in file
-            other_begin key note other there begins (inl same) is =
-                let file_is : other ≡ file = same_item key_in files other file keys there among (sym same) in
-                let begun = slot_begun (key_in file) one note is in
-                sym begun ∙ ap slot_of begins.is ∙ ap slot_in file_is
-            other_begin key note other there begins (inr differ) is =
-                none_is_some (slot_for (key_in file) note) one (begin_of_other (key_in file) other note differ begins) is
-
-            of_hidden : (note : Note) (of : IsOfHidden hiddens note) → (note ≡ hidden_begin of.hidden) ⊎ (note ≡ hidden_forget of.hidden) → slot_for (key_in file) note ≡ Some one → one ≡ slot_in file
-            of_hidden note of (inl is) begun =
-                none_is_some (slot_for (key_in file) note) one
-                (ap (slot_for (key_in file)) is ∙ ap (λ (b : Bool). if b then Some (hidden_slot of.hidden) else None) (not_equal (key_in file) (hidden_key of.hidden) (others of.hidden of.of_hiddens))) begun
-            of_hidden note of (inr is) begun = none_is_some (slot_for (key_in file) note) one (ap (slot_for (key_in file)) is) begun
-
-            by_kind : (note : Note) → slot_for (key_in file) note ≡ Some one → IsKnownNote files hiddens acknowledged note → one ≡ slot_in file
-            by_kind note is (inl (inl of)) = other_begin (key_in file) note of.file of.of_files of.begins (same_key_or_not (key_in file) (key_in of.file)) is
-            by_kind note is (inl (inr (inl of))) = none_is_some (slot_for (key_in file) note) one (ap (slot_for (key_in file)) of.is) is
-            by_kind note is (inl (inr (inr of))) = of_hidden note of of.is is
-            by_kind note is (inr has) = none_is_some (slot_for (key_in file) note) one (collectable_gives_none (key_in file) note (is_collectable (turned_of files) acknowledged note has)) is
+        (λ n ground. no_forget n (is_collectable (turned_of files) acknowledged n ground)) (λ n named. subst IsNoForget (sym named.is) tt)
+        (λ n forget. absurd (let q : None ≡ Some forget.removal = sym stays ∙ forget.removed in cc)) note passed.0 (eqb-true (slot_of note) (slot_in file) passed.1))
 
     -- ---- its Begin
 
@@ -285,6 +242,8 @@ module _ (files : List Filed) (hiddens : List Hidden) (acknowledged : List Parce
         let changed : seen.file.changed ≡ file.changed = ap (λ (f : Filed). f.changed) same in
         omega (arith, is, within, changed))
         (λ n ground e. absurd (let q : None ≡ Some moment = sym (no_moment n (is_collectable (turned_of files) acknowledged n ground)) ∙ e in cc))
+        (λ n named e. absurd (let q : None ≡ Some moment = sym (ap moment_of named.is) ∙ e in cc))
+        (λ n forget e. absurd (let q : None ≡ Some moment = sym (ap moment_of forget.is) ∙ e in cc))
         note there slot carries
       where
         some_is : (given : ℕ) → Some given ≡ Some moment → given ≡ moment
@@ -300,3 +259,53 @@ module _ (files : List Filed) (hiddens : List Hidden) (acknowledged : List Parce
         let own_one = passed_there (λ (n : Note). slot_of n == slot_in file) notes note there (eq-eqb (slot_of note) (slot_in file) slot) in
         let least = member_within 0 (filter_map moment_of own_notes) file.changed (given_there moment_of own_notes note file.changed own_one carries) in
         omega (arith, most, least)
+
+  -- ---- who begins a slot for a key
+
+  pub record IsSlotFor (key : List ℕ) (slot : ℕ) : Type 0 where
+    pub one : Following
+    pub among : Contains (all_slots files hiddens) one
+    pub slot_is : one.slot ≡ slot
+    pub key_is : one.key ≡ key
+
+  -- the key with which it begins
+  same_begun : (key other : List ℕ) (number slot : ℕ) → (if is_eq (compare key other) then Some number else None) ≡ Some slot → other ≡ key
+  same_begun key other number slot is = by_order (compare key other) refl is
+    where
+      by_order : (o : Ordering) → compare key other ≡ o → (if is_eq o then Some number else None) ≡ Some slot → other ≡ key
+      by_order Equal same begun = sym (same_key key other same)
+      by_order Less same none = absurd (let q : None ≡ Some slot = none in cc)
+      by_order Greater same none = absurd (let q : None ≡ Some slot = none in cc)
+
+  begins_none : (key : List ℕ) (slot : ℕ) (note other : Note) → note ≡ other → slot_for key other ≡ None → slot_for key note ≡ Some slot → IsSlotFor key slot
+  begins_none key slot note other is none begun = absurd (let q : None ≡ Some slot = sym (ap (slot_for key) is ∙ none) ∙ begun in cc)
+
+  pub whose_slot : (key : List ℕ) (slot : ℕ) → Contains (slots_for key notes) slot → IsSlotFor key slot
+  whose_slot key slot there =
+      let of = there_given (slot_for key) notes slot there in
+      by_kind of.0 of.2 (member_is (IsKnownNote files hiddens acknowledged) notes of.0 are.each of.1)
+    where
+      of_hidden : (note : Note) (hidden : Hidden) → Contains hiddens hidden → (note ≡ hidden_begin hidden) ⊎ (note ≡ hidden_forget hidden) → slot_for key note ≡ Some slot → IsSlotFor key slot
+      of_hidden note hidden among (inl is) begun = record {
+        one = hidden_following hidden;
+        among = Contains-append_right (map following_of files) (map hidden_following hiddens) (hidden_following hidden) (mapped_there hidden_following hiddens hidden among);
+        slot_is = ap slot_of (sym is) ∙ slot_begun key slot note begun;
+        key_is = same_begun key (hidden_key hidden) (hidden_slot hidden) slot (ap (slot_for key) (sym is) ∙ begun);
+      }
+      of_hidden note hidden among (inr is) begun = begins_none key slot note (hidden_forget hidden) is refl begun
+
+      of_file : (note : Note) (file : Filed) → IsNamingOf file note ⊎ IsForgetOf file note → slot_for key note ≡ Some slot → IsSlotFor key slot
+      of_file note file (inl named) begun = begins_none key slot note _ named.is refl begun
+      of_file note file (inr forget) begun = begins_none key slot note _ forget.is refl begun
+
+      by_kind : (note : Note) → slot_for key note ≡ Some slot → IsKnownNote files hiddens acknowledged note → IsSlotFor key slot
+      by_kind note begun (inl (inl of)) = record {
+        one = following_of of.file;
+        among = Contains-append_left (map following_of files) (map hidden_following hiddens) (following_of of.file) (mapped_there following_of files of.file of.of_files);
+        slot_is = ap slot_of (sym of.begins.is) ∙ slot_begun key slot note begun;
+        key_is = same_begun key (key_in of.file) (slot_in of.file) slot (ap (slot_for key) (sym of.begins.is) ∙ begun);
+      }
+      by_kind note begun (inl (inr (inl of))) = begins_none key slot note _ of.is refl begun
+      by_kind note begun (inl (inr (inr (inl of)))) = of_hidden note of.hidden of.of_hiddens of.is begun
+      by_kind note begun (inl (inr (inr (inr of)))) = of_file note of.file of.is begun
+      by_kind note begun (inr has) = absurd (let q : None ≡ Some slot = sym (collectable_gives_none key note (is_collectable (turned_of files) acknowledged note has)) ∙ begun in cc)

@@ -32,6 +32,7 @@ pub mod LastEpoch
 pub mod LastNotes
 pub mod Lists
 pub mod Located
+pub mod LostRows
 pub mod MomentsApart
 pub mod NamedKeys
 pub mod Names
@@ -49,6 +50,7 @@ pub mod Parts
 pub mod Placed
 pub mod Places
 pub mod Placing
+pub mod Removing
 pub mod Reopened
 pub mod Runs
 pub mod Same
@@ -59,7 +61,9 @@ pub mod Slots
 pub mod SoFar
 pub mod Storing
 pub mod Turning
+pub mod Turns
 pub mod Unscanned
+pub mod Went
 pub mod Worked
 pub mod WorkedFingerprint
 pub mod WorkedHidden
@@ -68,8 +72,10 @@ pub mod WorkedNames
 pub mod WorkedNative
 pub mod WorkedNumbers
 pub mod WorkedOpenings
+pub mod WorkedRemoved
 pub mod WorkedRenamed
 pub mod WorkedReopened
 pub mod WorkedRun
 pub mod WorkedScans
 pub mod WorkedShrunk
+pub mod WorkedTurns

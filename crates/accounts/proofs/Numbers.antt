@@ -379,18 +379,14 @@ events_with : (account others : List SlotAccount) → all_events others ≡ [] �
 events_with account others none =
     flat_map_both told_in_slot account others ∙ ap (λ (l : List AccountedEvent). all_events account ++ l) none ∙ append-nil (all_events account)
 
-pub numbers_with : (account others : List SlotAccount) (shipped dropped : ℕ) → all_events others ≡ [] → AreNumbersOf account shipped dropped → AreNumbersOf (account ++ others) shipped dropped
-numbers_with account others shipped dropped none are =
-    let same = sym (events_with account others none) in
-    record {
-      shipped_are = subst (λ (l : List AccountedEvent). shipped ≡ min (count_by is_acknowledged l) (2 ^ 64 - 1)) same are.shipped_are;
-      dropped_are = subst (λ (l : List AccountedEvent). dropped ≡ min (count_by is_dropped l) (2 ^ 64 - 1)) same are.dropped_are;
-    }
+pub numbers_with : (account all : List SlotAccount) (shipped dropped : ℕ) → all_events all ≡ all_events account → AreNumbersOf account shipped dropped → AreNumbersOf all shipped dropped
+numbers_with account all shipped dropped same are = record {
+  shipped_are = subst (λ (l : List AccountedEvent). shipped ≡ min (count_by is_acknowledged l) (2 ^ 64 - 1)) (sym same) are.shipped_are;
+  dropped_are = subst (λ (l : List AccountedEvent). dropped ≡ min (count_by is_dropped l) (2 ^ 64 - 1)) (sym same) are.dropped_are;
+}
 
-pub counted_with : (account others : List SlotAccount) → all_events others ≡ [] → AreAllCounted account → AreAllCounted (account ++ others)
-counted_with account others none are =
-    let same = sym (events_with account others none) in
-    record {
-      each = subst (AllByRecursion IsAcknowledgedOrDropped) same are.each;
-      together = subst (λ (l : List AccountedEvent). count_by is_acknowledged l + count_by is_dropped l ≡ length l) same are.together;
-    }
+pub counted_with : (account all : List SlotAccount) → all_events all ≡ all_events account → AreAllCounted account → AreAllCounted all
+counted_with account all same are = record {
+  each = subst (AllByRecursion IsAcknowledgedOrDropped) (sym same) are.each;
+  together = subst (λ (l : List AccountedEvent). count_by is_acknowledged l + count_by is_dropped l ≡ length l) (sym same) are.together;
+}

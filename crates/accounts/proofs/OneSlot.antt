@@ -1,24 +1,22 @@
 -- The account of a slot, over all openings of its file: where identities are kept and truncations are seen, it is one of the run.
-use Rattle.std.proofs.Common.{◌≡◌, ◌⊎◌, inl, inr, ℕ, zero, suc, ◌+◌, ◌-◌, ◌==◌, ◌<◌, ◌≤◌, List, [], ◌∷◌, ◌++◌, Contains, length, map, Option, None, Some, refl, sym, ap, subst, ◌∙◌, arith, if◌then◌else◌}
+use Rattle.std.proofs.Common.{◌≡◌, ◌⊎◌, inl, inr, ℕ, suc, ◌+◌, ◌-◌, ◌<◌, ◌≤◌, List, [], ◌∷◌, ◌++◌, Contains, length, map, Option, None, Some, IfSome, refl, sym, ap, subst, ◌∙◌, arith}
 use Rattle.std.specs.Prelude.{slice_get}
 use Rattle.std.specs.List.{AllByRecursion}
-use Rattle.std.specs.Option.{option_map_or}
-use Rattle.std.proofs.lemmas.Bool.{cases_lt, cases_order, cond-false, ne_eqb}
+use Rattle.std.proofs.lemmas.Bool.{cases_lt}
 use Rattle.event_tree.specs.declared.input_rule.InputRule.{InputRule}
 use Rattle.harvester.specs.History.{History, IsTelling}
 use Rattle.kept_rows.specs.Account.{FollowedTail, Place, SlotAccount}
 use Rattle.kept_rows.specs.Epochs.{AreEpochs}
-use Rattle.kept_rows.specs.Followed.{BecomesKnown, HadNoRow, IsNewlyKnown}
+use Rattle.kept_rows.specs.Lost.{WentBy}
 use Rattle.kept_rows.specs.Premises.{KeepsIdentity, SlotPremises, TailKeepsIdentity}
 use Rattle.kept_rows.specs.Run.{Run, Scan}
 use Rattle.kept_rows.specs.Scans.{IsBefore, IsBehind, IsFirstPath, ShowsFile, ShowsFileTo, ShowsKey, moment_in}
-use Rattle.kept_rows.specs.Telling.{IsNotedMoment, IsSlotAccount, IsTailOf, MayEnd, begun_moment, opening_moment}
+use Rattle.kept_rows.specs.Telling.{IsEpochTold, IsNotedMoment, IsSlotAccount, IsTailOf, MayEnd, begun_moment}
 use Rattle.kept_rows.specs.Trace.{IsTail}
 use Rattle.multiline_core.specs.Rule.{timeout_of}
 use Rattle.outside.specs.Files.{File}
 use Rattle.outside.specs.declared.history.Shown.{Shown}
-use Rattle.ship_core.proofs.Members.{first_there, none_there}
-use Rattle.ship_core.specs.Rows.{find}
+use Rattle.ship_core.proofs.Members.{first_there}
 use Rattle.slot_parts.proofs.Made.{account_has_epochs, account_is_told}
 use Rattle.slot_parts.proofs.Shown.{parts_shown}
 use Rattle.slot_parts.specs.Account.{IsLookedTail, IsShownAs, IsShownBy, IsShownPart}
@@ -29,10 +27,9 @@ use Rattle.told_events.specs.Licence.{LieApart}
 use Rattle.told_events.specs.Rules.{Rules, rules_of}
 use Rattle.told_events.specs.Told.{ToldEvent}
 use Rattle.wire_base.specs.declared.parcel.Parcel.{Parcel}
-use Rattle.wire_base.specs.declared.row.Row.{Row}
 use Rattle.accounts.specs.Accounted.{place_in}
-use Rattle.accounts.specs.Filed.{Filed, Opening, account_of, first_opening, following_of, tail_by, tails_in, told_both}
-use Rattle.accounts.specs.FollowedFile.{AreReopened, BeganEarlier, BeginsThere, IsFollowedFile, IsMomentOf, IsOpeningOf, WasShownLast, moment_by}
+use Rattle.accounts.specs.Filed.{Filed, Opening, account_of, first_opening, following_of, last_of, last_opening, left_in, tail_by, tails_in, told_both}
+use Rattle.accounts.specs.FollowedFile.{AreKnownTo, AreReopened, BeganEarlier, BeginsThere, IsFollowedFile, IsKnownTo, IsMomentOf, IsOpeningOf, WasShownLast, moment_by}
 use Rattle.accounts.specs.Opened.{Opened}
 use Rattle.accounts.specs.ToldFile.{IsToldBy, events_in}
 use Rattle.accounts.specs.Watch.{MayFindEnd, Name}
@@ -104,11 +101,28 @@ since_opened run one shown name was = by_order (cases_lt (length shown.front) (l
         let before = member_is (λ (listing : ℕ). listing < one.opening) shown.scan.listings entry.listing shown.made_before entry.of_scan in
         absurd (omega (arith, after, before))
 
--- an opening, and how the last scan before it showed the file, which is one since its key is known
+-- an opening, and how the last scan before it showed the file, which is one since its key is known; and where the file left, neither that scan nor
+-- one that named it since is a later one
 pub record IsShownOpening (run : Run) (file : Filed) (one : Opening) : Type 0 where
   pub is : IsOpeningOf run file.opened one
   pub shown : WasShownLast run one.opened
   pub known : file.known_from ≤ length shown.front
+  pub until : IfSome (left_in file) (λ last. IsKnownTo run last one.opened shown is.told.history.names)
+
+-- ---- of what may be there
+
+if_then : {A : Type 0} {P Q : A → Type 0} (o : Option A) → ((x : A) → P x → Q x) → IfSome o P → IfSome o Q
+if_then None follows some = tt
+if_then (Some x) follows some = follows x some
+
+each_where : (o : Option ℕ) (names : List Name) → IfSome o (λ last. AllByRecursion (λ (name : Name). name.scan ≤ last) names) → AllByRecursion (λ (name : Name). IfSome o (λ last. name.scan ≤ last)) names
+each_where None [] each = tt
+each_where None (name ∷ names) each = (tt, each_where None names tt)
+each_where (Some last) names each = each
+
+each_both : {A : Type 0} (P Q : A → Type 0) (xs : List A) → AllByRecursion P xs → AllByRecursion Q xs → AllByRecursion (λ x. P x × Q x) xs
+each_both P Q [] first second = tt
+each_both P Q (x ∷ xs) first second = ((first.0, second.0), each_both P Q xs first.1 second.1)
 
 module _ (run : Run) (placed : Parcel → Option Place) (file : Filed) (keeps : KeepsIdentity run (following_of file)) (same_first : file.opened.number ≡ keeps.number)
     (file_is : slice_get run.trace.files file.opened.number ≡ Some file.opened.file) where
@@ -177,7 +191,7 @@ module _ (run : Run) (placed : Parcel → Option Place) (file : Filed) (keeps : 
     shown_number =
         keeps.listed of.shown.scan (length of.shown.front) of.shown.number one.opened.begin.path
         (ap (λ (l : List Scan). slice_get l (length of.shown.front)) of.shown.scans_are ∙ got_behind of.shown.front of.shown.scan of.shown.behind)
-        (record { since = of.known; until = tt }) first_path.shows
+        (record { since = of.known; until = if_then (left_in file) (λ last known. known.listed) of.until }) first_path.shows
         ∙ sym same_first
 
     is_shown_as : IsShownAs run account one.opened.opening one.opened.begin.path
@@ -194,8 +208,8 @@ module _ (run : Run) (placed : Parcel → Option Place) (file : Filed) (keeps : 
     }
 
     -- and so is one that a later scan showed
-    is_shown_since : (name : Name) → WasRenamedSince run one.opened name → IsShownAs run account one.opened.opening name.path
-    is_shown_since name was = record {
+    is_shown_since : (name : Name) → WasRenamedSince run one.opened name → IfSome (left_in file) (λ last. name.scan ≤ last) → IsShownAs run account one.opened.opening name.path
+    is_shown_since name was within = record {
       before = was.front;
       scan = was.scan;
       behind = was.behind;
@@ -217,7 +231,10 @@ module _ (run : Run) (placed : Parcel → Option Place) (file : Filed) (keeps : 
         number_is : was.number ≡ file.opened.number
         number_is = keeps.listed was.scan (length was.front) was.number name.path
             (ap (λ (l : List Scan). slice_get l (length was.front)) was.scans_are ∙ got_behind was.front was.scan was.behind)
-            (record { since = let nearer = since_opened run one.opened of.shown name was in let known = of.known in omega (arith, nearer, known); until = tt }) first.shows
+            (record {
+              since = let nearer = since_opened run one.opened of.shown name was in let known = of.known in omega (arith, nearer, known);
+              until = subst (λ (n : ℕ). IfSome (left_in file) (λ last. n ≤ last)) was.number_is within;
+            }) first.shows
             ∙ sym same_first
 
     -- each event was told by the path of the opening, or by one of these
@@ -225,8 +242,11 @@ module _ (run : Run) (placed : Parcel → Option Place) (file : Filed) (keeps : 
     events_are_shown =
         in_turn_each run.trace.moments (IsShownBy run account one.opened.opening) one.opened.begin.path of.is.told.history.names (events_in one.history)
         (shown_by one.opened.begin.path is_shown_as)
-        (each_then (WasRenamedSince run one.opened) (λ (name : Name). (event : ToldEvent) → IsToldBy name.path run.trace.moments event → IsShownBy run account one.opened.opening event)
-        of.is.told.history.names (λ name was. shown_by name.path (is_shown_since name was)) of.is.told.history.renamed)
+        (each_then (λ (name : Name). WasRenamedSince run one.opened name × IfSome (left_in file) (λ last. name.scan ≤ last))
+        (λ (name : Name). (event : ToldEvent) → IsToldBy name.path run.trace.moments event → IsShownBy run account one.opened.opening event)
+        of.is.told.history.names (λ name was. shown_by name.path (is_shown_since name was.0 was.1))
+        (each_both (WasRenamedSince run one.opened) (λ (name : Name). IfSome (left_in file) (λ last. name.scan ≤ last)) of.is.told.history.names of.is.told.history.renamed
+        (each_where (left_in file) of.is.told.history.names (if_then (left_in file) (λ last known. known.named) of.until))))
         of.is.told.history.told
       where
         shown_by : (path : List ℕ) → IsShownAs run account one.opened.opening path → (event : ToldEvent) → IsToldBy path run.trace.moments event →
@@ -265,39 +285,23 @@ module _ (run : Run) (placed : Parcel → Option Place) (file : Filed) (keeps : 
       all_behind (IsShownPart run account) (parts_by rules.events (tail_by one)) (parts_in rules.events (map tail_by openings)) (parts_are_shown one of.0 own.0)
       (are_shown openings of.1 own.1)
 
+  last_file : (one : Opening) (later : List Opening) → AllByRecursion (IsShownOpening run file) (one ∷ later) → AllByRecursion Own (tails_of (map tail_by (one ∷ later))) →
+      (last_of one later).opened.file ≡ file.opened.file
+  last_file one [] of own = same_file one of.0 own.0
+  last_file one (next ∷ later) of own = last_file next later of.1 own.1
+
 -- ---- a file that scans listed
 
 module _ (run : Run) (placed : Parcel → Option Place) (file : Filed) (is : IsFollowedFile run file) where
-  -- a key that became known later had no row, so it has no moment from before
-  begun_with : IsNewlyKnown run [] (following_of file) → begun_moment run (following_of file) ≡ opening_moment run.opening file.opened.begin.key
-  begun_with new = by_scan file.known_from refl
-    where
-      none : BecomesKnown run [] (following_of file) → find file.opened.begin.key run.opening ≡ None
-      none known = by_row known.no_row
-        where
-          by_row : HadNoRow run [] (following_of file) → find file.opened.begin.key run.opening ≡ None
-          by_row (inl has_none) = has_none
-          by_row (inr went) = absurd (none_there went.1.earlier went.1.among)
-
-      by_scan : (number : ℕ) → file.known_from ≡ number → (if number == 0 then opening_moment run.opening file.opened.begin.key else 0) ≡ opening_moment run.opening file.opened.begin.key
-      by_scan zero first = refl
-      by_scan (suc earlier) later =
-          let known = none (new (omega (arith, later))) in
-          cond-false (suc earlier == 0) (opening_moment run.opening file.opened.begin.key) 0 (ne_eqb (suc earlier) 0 (λ same. omega (arith, same)))
-          ∙ sym (ap (λ (o : Option Row). option_map_or (λ (row : Row). row.changed.0) o 0) known)
-
   -- the moment is of an entry by which a scan showed it
-  noted_by : IsNewlyKnown run [] (following_of file) → (scan : Scan) → Contains run.scans scan → (number : ℕ) (shown : Shown) →
+  noted_by : (scan : Scan) → Contains run.scans scan → (number : ℕ) (shown : Shown) →
       ShowsFileTo run scan file.opened.begin.input file.opened.begin.key number shown → file.changed ≡ moment_by run file shown → IsNotedMoment run (following_of file) file.changed
-  noted_by new scan there number shown shows greater = by_order (cases_order (moment_in shown) (opening_moment run.opening file.opened.begin.key))
+  noted_by scan there number shown shows greater = by_order (cases_lt (begun_moment run (following_of file)) (moment_in shown))
     where
-      by_order : (moment_in shown ≡ opening_moment run.opening file.opened.begin.key) ⊎
-          ((moment_in shown < opening_moment run.opening file.opened.begin.key) ⊎ (opening_moment run.opening file.opened.begin.key < moment_in shown)) →
-          IsNotedMoment run (following_of file) file.changed
-      by_order (inl same) = inl (let is : file.changed ≡ opening_moment run.opening file.opened.begin.key = omega (arith, greater, same) in is ∙ sym (begun_with new))
-      by_order (inr (inl less)) = inl (let is : file.changed ≡ opening_moment run.opening file.opened.begin.key = omega (arith, greater, less) in is ∙ sym (begun_with new))
-      by_order (inr (inr more)) = inr (
-        subst (λ (n : ℕ). n ≤ file.changed) (sym (begun_with new)) (omega (arith, greater, more)),
+      by_order : (begun_moment run (following_of file) < moment_in shown) ⊎ (moment_in shown ≤ begun_moment run (following_of file)) → IsNotedMoment run (following_of file) file.changed
+      by_order (inr within) = inl (omega (arith, greater, within))
+      by_order (inl more) = inr (
+        omega (arith, greater, more),
         record {
           scan = scan;
           of_run = there;
@@ -308,20 +312,20 @@ module _ (run : Run) (placed : Parcel → Option Place) (file : Filed) (is : IsF
         },
       )
 
-  is_noted_moment : IsNewlyKnown run [] (following_of file) → IsNotedMoment run (following_of file) file.changed
-  is_noted_moment new = by_case is.moment
+  is_noted_moment : IsNotedMoment run (following_of file) file.changed
+  is_noted_moment = by_case is.moment
     where
       by_case : IsMomentOf run file is.listed → IsNotedMoment run (following_of file) file.changed
-      by_case (inl opening) = inl (opening ∙ sym (begun_with new))
+      by_case (inl begun) = inl begun
       by_case (inr (inl greater)) =
           let last = is.listed.last in
-          noted_by new last.scan
+          noted_by last.scan
           (subst (λ (l : List Scan). Contains l last.scan) (sym last.scans_are) (behind_there last.front (last.scan ∷ last.behind) last.scan (first_there last.scan last.behind)))
           last.number last.shown last.shows greater
-      by_case (inr (inr also)) = noted_by new also.1.scan (got_there run.scans also.1.place also.1.scan also.1.scan_is) also.1.number also.0 also.1.shows also.2
+      by_case (inr (inr also)) = noted_by also.1.scan (got_there run.scans also.1.place also.1.scan also.1.scan_is) also.1.number also.0 also.1.shows also.2
 
   -- the scans that listed it as it was opened are since its key is known
-  known_first : file.known_from ≤ length is.listed.last.front
+  pub known_first : file.known_from ≤ length is.listed.last.front
   known_first = by_case is.listed.begins
     where
       by_case : BeginsThere run file is.listed.last ⊎ BeganEarlier run file is.listed.last → file.known_from ≤ length is.listed.last.front
@@ -329,15 +333,16 @@ module _ (run : Run) (placed : Parcel → Option Place) (file : Filed) (is : IsF
       by_case (inr before) = let less = before.earlier in omega (arith, less)
 
   shown_later : (last : Opening) (shown : WasShownLast run last.opened) → last.opened.begin.key ≡ file.opened.begin.key → file.known_from ≤ length shown.front → (so_far : History) (later : List Opening) →
-      AreReopened run file.opened last so_far later → AllByRecursion (IsShownOpening run file) later
-  shown_later last shown same_key known so_far [] are = tt
-  shown_later last shown same_key known so_far (next ∷ later) are =
+      (are : AreReopened run file.opened last so_far later) → IfSome (left_in file) (λ number. AreKnownTo run number file.opened last so_far later are) →
+      AllByRecursion (IsShownOpening run file) later
+  shown_later last shown same_key known so_far [] are until = tt
+  shown_later last shown same_key known so_far (next ∷ later) are until =
       let since = are.0.closed.since in
       let before = are.0.closed.before in
       let nearer = not_before run last.opened next.opened shown are.0.shown (are.0.is.same_key ∙ sym same_key) (omega (arith, since, before)) in
       let still : file.known_from ≤ length are.0.shown.front = omega (arith, known, nearer) in (
-        record { is = are.0.is; shown = are.0.shown; known = still },
-        shown_later next are.0.shown are.0.is.same_key still (told_both so_far next.history) later are.1,
+        record { is = are.0.is; shown = are.0.shown; known = still; until = if_then (left_in file) (λ number each. each.0) until },
+        shown_later next are.0.shown are.0.is.same_key still (told_both so_far next.history) later are.1 (if_then (left_in file) (λ number each. each.1) until),
       )
 
   pub slot_has_epochs : AreEpochs run (account_of placed file)
@@ -345,27 +350,45 @@ module _ (run : Run) (placed : Parcel → Option Place) (file : Filed) (is : IsF
       account_has_epochs run file.opened.rule.multiline (place_in placed file.opened.begin.slot) (following_of file) file.opened.number file.changed (tails_in file) refl
       (file_goes_on run file is)
 
-  pub slot_is_account : IsNewlyKnown run [] (following_of file) → SlotPremises run (following_of file) → IsSlotAccount run (account_of placed file)
-  slot_is_account new premises =
-      let keeps = premises.identity in
-      let openings = first_opening file ∷ file.later in
-      let of : AllByRecursion (IsShownOpening run file) openings = (
-        record { is = first_is_opening run file is; shown = is.listed.last; known = known_first },
-        shown_later (first_opening file) is.listed.last refl known_first file.turned.history file.later is.reopened,
-      ) in
-      let own = keeps.tails file.opened.rule is.rule_is in
-      let same_first : file.opened.number ≡ keeps.number =
-      own.0.one_file file.opened.begin.path file.opened.number file.opened.file (tells_both run file.opened file.turned.history file.looks is.tail) is.file_is
-      (opens_with_key run file.opened (first_opening file) (first_is_opening run file is)) in
-      let on = file_goes_on run file is in
-      record {
-        rule = file.opened.rule;
-        rule_is = is.rule_is;
-        moment = is_noted_moment new;
-        of_one_file = of_one_file run placed file keeps same_first is.file_is openings of own;
-        epochs = slot_has_epochs;
-        told = account_is_told run (rules_of file.opened.rule run.settings.processors) (place_in placed file.opened.begin.slot) (following_of file) file.opened.number file.changed (tails_in file)
-            file.opened.file is.in_range is.file_is refl on (are_told run placed file keeps same_first is.file_is openings of own)
-            (are_looked run placed file keeps same_first is.file_is openings of own) premises.truncations (are_shown run placed file keeps same_first is.file_is openings of own);
-        went = tt;
-      }
+  openings_shown : AllByRecursion (IsShownOpening run file) (first_opening file ∷ file.later)
+  openings_shown = (
+    record { is = first_is_opening run file is; shown = is.listed.last; known = known_first; until = is.first_known },
+    shown_later (first_opening file) is.listed.last refl known_first file.turned.history file.later is.reopened is.later_known,
+  )
+
+  module _ (premises : SlotPremises run (following_of file)) where
+    keeps : KeepsIdentity run (following_of file)
+    keeps = premises.identity
+
+    own : AllByRecursion (TailKeepsIdentity run file.opened.rule file.opened.begin.key keeps.number) (following_of file).tails
+    own = keeps.tails file.opened.rule is.rule_is
+
+    same_first : file.opened.number ≡ keeps.number
+    same_first =
+        own.0.one_file file.opened.begin.path file.opened.number file.opened.file (tells_both run file.opened file.turned.history file.looks is.tail) is.file_is
+        (opens_with_key run file.opened (first_opening file) (first_is_opening run file is))
+
+    -- the file of its last opening is that of the slot
+    pub same_last_file : (last_opening file).opened.file ≡ file.opened.file
+    same_last_file = last_file run placed file keeps same_first is.file_is (first_opening file) file.later openings_shown own
+
+    pub tails_looked : AllByRecursion (IsLookedTail file.opened.file) (following_of file).tails
+    tails_looked = are_looked run placed file keeps same_first is.file_is (first_opening file ∷ file.later) openings_shown own
+
+    pub epochs_told : AllByRecursion (IsEpochTold run (rules_of file.opened.rule run.settings.processors) (account_of placed file)) (account_of placed file).epochs
+    epochs_told =
+        let openings = first_opening file ∷ file.later in
+        account_is_told run (rules_of file.opened.rule run.settings.processors) (place_in placed file.opened.begin.slot) (following_of file) file.opened.number file.changed (tails_in file)
+        file.opened.file is.in_range is.file_is refl (file_goes_on run file is) (are_told run placed file keeps same_first is.file_is openings openings_shown own)
+        tails_looked premises.truncations (are_shown run placed file keeps same_first is.file_is openings openings_shown own)
+
+    pub slot_is_account : IfSome (left_in file) (WentBy run run.trace.wires file.opened.rule (account_of placed file)) → IsSlotAccount run (account_of placed file)
+    slot_is_account went = record {
+      rule = file.opened.rule;
+      rule_is = is.rule_is;
+      moment = is_noted_moment;
+      of_one_file = of_one_file run placed file keeps same_first is.file_is (first_opening file ∷ file.later) openings_shown own;
+      epochs = slot_has_epochs;
+      told = epochs_told;
+      went = went;
+    }

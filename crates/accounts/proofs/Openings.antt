@@ -24,7 +24,7 @@ use Rattle.slot_parts.specs.Parts.{epochs_of}
 use Rattle.slot_parts.specs.Tails.{GoOnBehind, GoesOnBehind, parts_by, parts_in, segments_by, started, tails_of}
 use Rattle.slot_parts.specs.Tellings.{AreNumberedFrom, parts_of, tellings_in}
 use Rattle.wire_base.specs.declared.row.Row.{Row}
-use Rattle.accounts.specs.Filed.{Filed, IsFiled, Opening, TellEpochs, first_opening, parts_told, tail_by, tails_in, told_both, told_over, turned_in}
+use Rattle.accounts.specs.Filed.{Filed, IsFiled, Opening, TellEpochs, first_opening, last_of, last_opening, parts_told, tail_by, tails_in, told_both, told_over, turned_in}
 use Rattle.accounts.specs.FollowedFile.{AreReopened, BeganEarlier, BeginsThere, IsFollowedFile, IsOpeningOf, IsReopened, MayReopenAt, WasShownLast, begins_by, start_in, tail_with}
 use Rattle.accounts.specs.Opened.{Opened}
 use Rattle.accounts.specs.Parted.{kept_looks}
@@ -153,8 +153,8 @@ module _ (run : Run) (first : Opened) (in_range : IsGroupRule first.rule.multili
 
   -- what was told of it so far goes on to the end
   pub in_epochs : (epoch base : ℕ) (last : Opening) (so_far : History) (later : List Opening) → IsSoFar epoch base so_far last.history → AreReopened run first last so_far later →
-      (ending : History) × IsSoFar epoch base (told_over so_far later) ending
-  in_epochs epoch base last so_far [] is are = (last.history, is)
+      IsSoFar epoch base (told_over so_far later) (last_of last later).history
+  in_epochs epoch base last so_far [] is are = is
   in_epochs epoch base last so_far (next ∷ later) is are =
       in_epochs epoch base next (told_both so_far next.history) later
       (next_so_far epoch base so_far last.history next.history is next.opened.begin.epoch.0 next.opened.begin.base
@@ -253,7 +253,7 @@ within_listed zero row size = within_size row size
 within_listed (suc earlier) row size = omega arith
 
 module _ (run : Run) (file : Filed) (is : IsFollowedFile run file) where
-  pub first_is_opening : IsOpeningOf run file.opened (first_opening file)
+  abbrev pub first_is_opening : IsOpeningOf run file.opened (first_opening file)
   first_is_opening = record {
     same_slot = refl;
     same_input = refl;
@@ -274,14 +274,15 @@ module _ (run : Run) (file : Filed) (is : IsFollowedFile run file) where
   first_is_so_far : IsSoFar epoch base file.turned.history file.turned.history
   first_is_so_far = first_so_far epoch base file.turned.history is.told.history.epochs (spans_adjoin run file.opened (first_opening file) first_is_opening is.in_range)
 
+  -- what was told of it over all its openings ends where the last one does
+  pub all_so_far : IsSoFar epoch base (turned_in file).history (last_opening file).history
+  all_so_far = in_epochs run file.opened is.in_range epoch base (first_opening file) file.turned.history file.later first_is_so_far is.reopened
+
   pub file_in_epochs : IsInEpochs (turned_in file)
-  file_in_epochs =
-      let so_far = in_epochs run file.opened is.in_range epoch base (first_opening file) file.turned.history file.later first_is_so_far is.reopened in
-      record { epoch = epoch; base = base; epochs = so_far.1.epochs; adjoin = so_far.1.adjoin }
+  file_in_epochs = record { epoch = epoch; base = base; epochs = all_so_far.epochs; adjoin = all_so_far.adjoin }
 
   pub file_epochs : AreEpochsFrom epoch base (tellings_in (turned_in file).history)
-  file_epochs =
-      (in_epochs run file.opened is.in_range epoch base (first_opening file) file.turned.history file.later first_is_so_far is.reopened).1.epochs
+  file_epochs = all_so_far.epochs
 
   tell_epochs : TellEpochs (epochs_of epoch base (parts_told file)) (tellings_in (turned_in file).history)
   tell_epochs = by_tellings (tellings_in file.turned.history) refl is.told.history.epochs

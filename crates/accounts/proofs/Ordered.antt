@@ -26,7 +26,7 @@ use Rattle.accounts.specs.Filed.{Filed, HasItsSlot, slot_in, turned_of}
 use Rattle.accounts.specs.FollowedFile.{AreInSlots}
 use Rattle.accounts.specs.Ground.{HasGround, IsEpochOf, IsNoteBy}
 use Rattle.accounts.specs.Hidden.{Hidden, hidden_begin, hidden_forget}
-use Rattle.accounts.specs.ToldNotes.{MayTell}
+use Rattle.accounts.specs.ToldNotes.{IsForgetOf, IsNamingOf, MayTell}
 use Rattle.accounts.specs.Turned.{Turned}
 use Rattle.accounts.proofs.Apart.{IsInEpochs}
 use Rattle.accounts.proofs.Begins.{HasItsBegin, begin_begins, begins_still}
@@ -185,11 +185,16 @@ SettlesNothing note = (epoch : ℕ) → span_in epoch note ≡ None
 pub told_settles_nothing : (files : List Filed) (hiddens : List Hidden) (note : Note) → MayTell files hiddens note → SettlesNothing note
 told_settles_nothing files hiddens note (inl of) = λ epoch. ap (span_in epoch) of.begins.is
 told_settles_nothing files hiddens note (inr (inl of)) = λ epoch. ap (span_in epoch) of.is
-told_settles_nothing files hiddens note (inr (inr of)) = by_kind of.is
+told_settles_nothing files hiddens note (inr (inr (inl of))) = by_kind of.is
   where
     by_kind : (note ≡ hidden_begin of.hidden) ⊎ (note ≡ hidden_forget of.hidden) → SettlesNothing note
     by_kind (inl is) = λ epoch. ap (span_in epoch) is
     by_kind (inr is) = λ epoch. ap (span_in epoch) is
+told_settles_nothing files hiddens note (inr (inr (inr of))) = by_kind of.is
+  where
+    by_kind : IsNamingOf of.file note ⊎ IsForgetOf of.file note → SettlesNothing note
+    by_kind (inl named) = λ epoch. ap (span_in epoch) named.is
+    by_kind (inr forget) = λ epoch. ap (span_in epoch) forget.is
 
 module _ (files : List Turned) (apart : AreDistinct (map (λ (turned : Turned). turned.slot.0) files)) (epochs : AllByRecursion IsInEpochs files) (acknowledged : List Parcel) where
   abbrev pub Grounded : Note → Type 0

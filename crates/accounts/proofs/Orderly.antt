@@ -89,7 +89,7 @@ module _ (files : List Turned) (apart : AreDistinct (map (λ (turned : Turned). 
 
 -- ---- in one row
 
-spans_back : (told : List AccountedEvent) → account.spans_of told ≡ spans_of (events_of told)
+pub spans_back : (told : List AccountedEvent) → account.spans_of told ≡ spans_of (events_of told)
 spans_back [] = refl
 spans_back (one ∷ told) = ap (λ (l : List Extent). one.event.span ∷ l) (spans_back told)
 

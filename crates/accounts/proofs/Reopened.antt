@@ -105,7 +105,7 @@ adjoin_on : (start : ℕ) (told more : List ToldEvent) → Adjoin start (spans_o
 adjoin_on start [] more first second = second
 adjoin_on start (one ∷ told) more first second = (first.0, first.1, adjoin_on one.span.end told more first.2 second)
 
-last_end_on : (start : ℕ) (told more : List ToldEvent) → last_end start (spans_of (told ++ more)) ≡ last_end (last_end start (spans_of told)) (spans_of more)
+pub last_end_on : (start : ℕ) (told more : List ToldEvent) → last_end start (spans_of (told ++ more)) ≡ last_end (last_end start (spans_of told)) (spans_of more)
 last_end_on start [] more = refl
 last_end_on start (one ∷ told) more = last_end_on one.span.end told more
 

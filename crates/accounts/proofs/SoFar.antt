@@ -55,7 +55,7 @@ module _ (looks : Opened → List Look) (changed : Opened → ℕ) (told : List 
     told_of_files : (hiddens : List Hidden) (note : Note) → MayTellAs changed opened hiddens note → MayTell joined.files hiddens note
     told_of_files hiddens note (inl begin) = inl (begin_of_file joined.files joined.each note (subst (λ (l : List Opened). IsBeginAsOne changed l note) (sym joined.opened_are) begin))
     told_of_files hiddens note (inr (inl seen)) = inr (inl (moment_of_file joined.files joined.each note (subst (λ (l : List Opened). IsMomentAs changed l note) (sym joined.opened_are) seen)))
-    told_of_files hiddens note (inr (inr of)) = inr (inr of)
+    told_of_files hiddens note (inr (inr of)) = inr (inr (inl of))
 
     noted_files : (first : List Note) (files : List Filed) → AllByRecursion (IsNotedAs first) (map (λ (file : Filed). file.opened) files) → AllByRecursion (IsNoted first) files
     noted_files first [] each = tt

@@ -10,6 +10,7 @@ use Rattle.kept_rows.specs.Sent.{IsSentOnly, SendOnlyTold}
 use Rattle.kept_rows.specs.Trace.{WireTold}
 use Rattle.outside.specs.Talks.{Talk}
 use Rattle.outside.specs.Wires.{Outcome}
+use Rattle.ship_core.proofs.Members.{none_there}
 use Rattle.accounts.specs.AccountedFor.{AccountsFor}
 use Rattle.accounts.specs.Unscanned.{IsSilent, IsUnscanned}
 use Rattle.accounts.proofs.Keeping.{images_hold_kept_rows, rows_are_kept}
@@ -51,7 +52,7 @@ module _ (run : Run) (is : IsUnscanned run) where
     slots = record { epochs = tt; each = tt; places_apart = tt };
     sent = silent_send_nothing run.trace.wires is.silent;
     orderly = none_orderly;
-    ends = rows_are_kept [] run.opening run.trace.wires [] tt tt tt;
+    ends = rows_are_kept [] run.opening run.trace.wires [] tt tt tt (λ one newer there. absurd (none_there one there));
     begun = λ rows over. tt;
     images = images_hold_kept_rows [] run.opening run.trace.wires [] tt tt;
   }

@@ -1,5 +1,5 @@
 -- A worked account: two plain lines that were read to their end, acknowledged in one talk. It is the one that stands in `kept_rows`.
-use Rattle.std.proofs.Common.{◌≡◌, ℕ, ◌==◌, true, false, List, [], ◌∷◌, Option, Some, codes, if◌then◌else◌, refl}
+use Rattle.std.proofs.Common.{◌≡◌, ℕ, ◌==◌, true, false, List, [], ◌∷◌, Option, None, Some, codes, if◌then◌else◌, refl}
 use Rattle.harvester.specs.History.{Ended, History, Telling}
 use Rattle.kept_rows.proofs.Worked as worked
 use Rattle.kept_rows.specs.Account.{Place}
@@ -59,7 +59,7 @@ abbrev placed : Parcel → Option Place
 placed parcel = Some (record { wire = 0; connection = 0; number = if parcel.span.start == 0 then 0 else 1 })
 
 abbrev file : Filed
-file = record { opened = opened; turned = record { slot = record { 0 = 0 }; history = history }; looks = worked.looks; changed = 0; known_from = 0; later = [] }
+file = record { opened = opened; turned = record { slot = record { 0 = 0 }; history = history }; looks = worked.looks; changed = 0; known_from = 0; later = []; removed = None }
 
 pub two_plain_lines_are_accounted : account_of placed file ≡ worked.slot_account
 two_plain_lines_are_accounted = refl

@@ -33,6 +33,7 @@ use Rattle.accounts.specs.RunTold.{RunTold}
 use Rattle.accounts.proofs.WorkedNative.{depth_in, entries_in, root_in}
 use Rattle.accounts.specs.Watched.{watch_in}
 use Rattle.accounts.proofs.WorkedRun.{file_by, has_talks, in_order_by, is_look, notes_by, own_looks, parcels, told_file, worker}
+use Rattle.accounts.proofs.Turns.{apart_take_turns}
 
 -- ---- the run
 
@@ -200,6 +201,9 @@ file_is_followed = record {
   };
   moment = inl refl;
   reopened = tt;
+  first_known = tt;
+  later_known = tt;
+  removed = tt;
 }
 
 each_opening : EachOpeningIsOne run (file ∷ [])
@@ -229,14 +233,14 @@ has_told = record {
   followed = record {
     each = (file_is_followed, tt);
     slots = (omega arith, tt);
-    keys_apart = (none_there key, tt);
-    newly_known = (λ later. absurd (let above : 0 < 0 = later in omega (arith, above)), tt);
     openings_apart = (asked_apart, (none_there 3, tt));
     openings_serve = each_opening;
   };
   talks = (record { most = 2048; talks = has_talks 0 0; none_open = refl }, tt);
   may_go = record { each = tt; apart = tt };
-  behind = record { least = 1; files_below = (omega arith, tt); slots = tt; other_keys = λ one among hidden none. absurd (none_there hidden none) };
+  beside = record { slots = tt; other_slots = λ one among hidden none. absurd (none_there hidden none) };
+  turns = apart_take_turns run (file ∷ []) [] (notes_by key).all (none_there key, tt) tt (λ one among hidden none. absurd (none_there hidden none))
+      (λ later. absurd (let above : 0 < 0 = later in omega (arith, above)), tt);
   told = record {
     each = (
       inl (record { file = file; of_files = (0, omega arith, refl); begins = record { path = a_log; changed = record { 0 = 0 }; is = refl; within = omega arith } }),
@@ -256,6 +260,7 @@ has_told = record {
     notes = [];
     notes_are = λ h. refl;
   };
+  gone = (tt, tt);
 }
 
 pub is_done : RunDone run scan (file ∷ []) (worker ∷ []) (notes_by key)
@@ -274,6 +279,7 @@ is_done = record {
   whole = (
     record {
       alone = refl;
+      stays = refl;
       read_through = inl (record { ended = refl; all_told = refl });
       moment = record {
         shown = worked.shown;

@@ -1,11 +1,12 @@
 -- Worked hidden rows, which may go, and rows that may not: the folder has one file, which the scan lists, and the registry had the row of
 -- another.
 use Rattle.std.proofs.Common.{◌≡◌, inl, inr, ℕ, zero, suc, true, false, List, [], ◌∷◌, get_or, Option, Some, None, refl, sym, ap, ◌∙◌, subst, arith, codes}
-use Rattle.std.specs.List.{AllByRecursion, Contains, slice_get}
+use Rattle.std.specs.List.{Contains, slice_get}
 use Rattle.event_tree.specs.declared.input_rule.InputRule.{InputRule}
 use Rattle.file_identity.specs.Key.{named_key, path_key}
-use Rattle.kept_rows.proofs.Worked.{entry, input, is_covered, key, only_entry, row, run, scan, settings, shown, slot_account, trace, whole, wires}
+use Rattle.kept_rows.proofs.Worked.{entry, following, input, is_covered, key, only_entry, row, run, scan, settings, shown, slot_account, trace, whole, wires}
 use Rattle.kept_rows.specs.Account.{SlotAccount}
+use Rattle.kept_rows.specs.Followed.{start_unlisted}
 use Rattle.kept_rows.specs.Lost.{IsRightlyLost}
 use Rattle.kept_rows.specs.Run.{Asking, Run, Scan}
 use Rattle.kept_rows.specs.Scans.{AsksFor, Gave, IsAsked, IsCovered, IsWhole, ShowsEntry, ShowsKey}
@@ -17,7 +18,8 @@ use Rattle.ship_core.specs.RowOver.{row_over}
 use Rattle.wire_base.specs.declared.note.Cause.TheVariants.{Acked}
 use Rattle.wire_base.specs.declared.note.Note.TheVariants.{Settle}
 use Rattle.wire_base.specs.declared.row.Row.{Row}
-use Rattle.accounts.specs.Hidden.{Hidden, IsApartFrom, MayAllGo, MayGo, hidden_begin, hidden_forget, hidden_key, with_hidden}
+use Rattle.accounts.specs.Hidden.{Hidden, MayAllGo, MayGo, hidden_begin, hidden_forget, hidden_key, with_hidden}
+use Rattle.accounts.proofs.HiddenFollowed.{begins_unlisted}
 use Rattle.accounts.proofs.HiddenLost.{lost}
 
 -- ---- the run, whose registry had the rows of both files
@@ -38,7 +40,7 @@ abbrev asking : Asking
 asking = record { input = 0; path = codes "/w/a.log"; opening = None }
 
 abbrev hidden : Hidden
-hidden = record { slot = record { 0 = 1 }; row = absent_row; input = 0; hidden_by = 0 }
+hidden = record { slot = record { 0 = 1 }; row = absent_row; input = 0; start = start_unlisted absent_row; hidden_by = 0 }
 
 -- ---- what its scan shows
 
@@ -105,11 +107,11 @@ may_go = record {
   cleans = refl;
   key_of_input = record { rest = codes "path::/w/b.log"; spelled = refl };
   found = refl;
+  begun = begins_unlisted the_run hidden scan refl refl refl key_is_hidden;
   scan = scan;
   scan_is = refl;
   whole = is_whole;
   not_shown = key_is_hidden;
-  not_before = λ number other since until is. absurd (omega (arith, until));
 }
 
 may_all_go : MayAllGo the_run (hidden ∷ [])
@@ -127,17 +129,13 @@ behind = record {
 slot_is_behind : with_hidden (slot_account ∷ []) (hidden ∷ []) ≡ slot_account ∷ behind ∷ []
 slot_is_behind = refl
 
-slot_is_apart : AllByRecursion (IsApartFrom (hidden ∷ [])) (slot_account ∷ [])
-slot_is_apart = (
-  λ one there same. elim (there_cases hidden one [] there) [
-    | inl first ↦ key_is_hidden (subst (ShowsKey the_run scan) (same ∙ ap hidden_key (sym first)) shows_key)
-    | inr nothing ↦ none_there one nothing
-  ],
-  tt,
-)
-
 absent_row_is_rightly_lost : IsRightlyLost the_run (slot_account ∷ behind ∷ []) wires (path_key (codes "w") b_log)
-absent_row_is_rightly_lost = lost the_run (hidden ∷ []) may_all_go (slot_account ∷ []) wires hidden (first_there hidden []) slot_is_apart
+absent_row_is_rightly_lost = lost the_run (hidden ∷ []) may_all_go (slot_account ∷ []) wires hidden (first_there hidden []) ((λ same. omega arith), ((λ same. omega arith), tt))
+
+-- a greater slot of a file stands behind it
+slot_is_between : with_hidden (slot_account ∷ record slot_account { following = record following { slot = 5 } } ∷ []) (hidden ∷ [])
+    ≡ slot_account ∷ behind ∷ record slot_account { following = record following { slot = 5 } } ∷ []
+slot_is_between = refl
 
 -- ---- what is refused
 

@@ -189,6 +189,9 @@ file_is_followed = record {
   };
   moment = inl refl;
   reopened = tt;
+  first_known = tt;
+  later_known = tt;
+  removed = tt;
 }
 
 -- ---- each entry is served

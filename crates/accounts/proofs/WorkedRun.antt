@@ -43,6 +43,7 @@ use Rattle.accounts.specs.ToldFile.{IsToldFile}
 use Rattle.accounts.specs.Watch.{MayFindEnd, Watch}
 use Rattle.accounts.specs.Watched.{watch_in}
 use Rattle.accounts.proofs.Worked.{begin, history, opened, telling}
+use Rattle.accounts.proofs.Turns.{apart_take_turns}
 
 -- ---- what was told of its file
 
@@ -85,9 +86,10 @@ module _ (globs : List (List ℕ)) (identity : IdentityRule) (numbers : Option (
     changed = 0;
     known_from = 0;
     later = [];
+    removed = None;
   }
 
-  is_telling : IsTelling (rules_in file_by.turned.history) telling
+  pub is_telling : IsTelling (rules_in file_by.turned.history) telling
   is_telling of has = subst (λ (l : List ℕ). AreTold plain [] l 0 both_events) (sym has.behind) (two_lines_are_told has.more)
 
   pub is_look : (look : Look) → look.sight ≡ worked.sight → IsAnswered look.question worked.sight → IsLook file_by.opened.file worked.sight look
@@ -98,7 +100,7 @@ module _ (globs : List (List ℕ)) (identity : IdentityRule) (numbers : Option (
         answered = answered;
       })
 
-  looked : IsLookedAt numbers file_by.turned.history (tail_of file_by)
+  pub looked : IsLookedAt numbers file_by.turned.history (tail_of file_by)
   looked = record {
     since = worked.looks;
     beyond = [];
@@ -133,7 +135,7 @@ module _ (globs : List (List ℕ)) (identity : IdentityRule) (numbers : Option (
   )
 
   -- in a run that may find its end
-  pub told_file : (watch : Watch) → watch.processors ≡ [] → MayFindEnd watch file_by.opened → AreLooks file_by.opened.file worked.sight (asked ++ worked.looks) →
+  abbrev pub told_file : (watch : Watch) → watch.processors ≡ [] → MayFindEnd watch file_by.opened → AreLooks file_by.opened.file worked.sight (asked ++ worked.looks) →
       IsToldFile watch file_by.opened (0 ∷ []) file_by.turned (Some (tail_of file_by))
   told_file watch none may_find tells = record {
     slot = refl;
@@ -190,6 +192,9 @@ followed_file = record {
   };
   moment = inl refl;
   reopened = tt;
+  first_known = tt;
+  later_known = tt;
+  removed = tt;
 }
 
 -- ---- its notes and its talk
@@ -275,14 +280,14 @@ has_told = record {
   followed = record {
     each = (followed_file, tt);
     slots = (omega arith, tt);
-    keys_apart = (none_there worked.key, tt);
-    newly_known = (λ later. absurd (let above : 0 < 0 = later in omega (arith, above)), tt);
     openings_apart = (none_there 2, tt);
     openings_serve = worked.is_account.followed.openings_serve;
   };
   talks = (record { most = 2048; talks = has_talks 0 0; none_open = refl }, tt);
   may_go = record { each = tt; apart = tt };
-  behind = record { least = 1; files_below = (omega arith, tt); slots = tt; other_keys = λ one among hidden none. absurd (none_there hidden none) };
+  beside = record { slots = tt; other_slots = λ one among hidden none. absurd (none_there hidden none) };
+  turns = apart_take_turns worked.run (file ∷ []) [] (first_by worked.key ++ collected) (none_there worked.key, tt) tt (λ one among hidden none. absurd (none_there hidden none))
+      (λ later. absurd (let above : 0 < 0 = later in omega (arith, above)), tt);
   told = record {
     each = (
       inl (record { file = file; of_files = (0, omega arith, refl); begins = record { path = a_log; changed = record { 0 = 0 }; is = refl; within = omega arith } }),
@@ -302,6 +307,7 @@ has_told = record {
     notes = [];
     notes_are = λ h. refl;
   };
+  gone = (tt, tt);
 }
 
 pub is_done : RunDone worked.run worked.scan (file ∷ []) (worker ∷ []) (notes_by worked.key)
@@ -311,6 +317,7 @@ is_done = record {
   whole = (
     record {
       alone = refl;
+      stays = refl;
       read_through = inl (record { ended = refl; all_told = refl });
       moment = record {
         shown = worked.shown;

@@ -23,14 +23,15 @@ use Rattle.accounts.specs.ByScans.{IsByScans, IsToldScan}
 use Rattle.accounts.specs.Filed.{Filed, following_of}
 use Rattle.accounts.specs.Watch.{MayFindEnd}
 use Rattle.accounts.specs.Watched.{WasRemovedSince, watch_in}
-use Rattle.accounts.specs.FollowedFile.{BeganEarlier, BeginsThere, EachOpeningIsOne, IsFollowedFile}
+use Rattle.accounts.specs.FollowedFile.{BeganEarlier, BeginsThere, EachOpeningIsOne, IsFollowedFile, WasShownLast}
 use Rattle.accounts.specs.Hidden.{Hidden, MayGo}
 use Rattle.accounts.specs.RunTold.{RunTold}
 use Rattle.accounts.proofs.AccountingFor.{IsAccountedFor, is_accounted_for}
-use Rattle.accounts.proofs.Following.{are_followed}
+use Rattle.accounts.proofs.HiddenFollowed.{all_followed}
 use Rattle.accounts.proofs.Lists.{got_behind}
 use Rattle.accounts.proofs.WorkedNative.{depth_in, entries_in, root_in}
 use Rattle.accounts.proofs.WorkedRun.{file_by, has_talks, in_order_by, notes_by, own_looks, parcels, told_file, worker}
+use Rattle.accounts.proofs.Turns.{apart_take_turns}
 
 -- ---- the run
 
@@ -41,7 +42,7 @@ other_listing = unwrap_or (slice_get worked.trace.events 1) ListingFailed
 abbrev lists : List Shown → Event
 lists shown = Listed (root_in other_listing) (depth_in other_listing) shown
 
-abbrev trace : Trace
+abbrev pub trace : Trace
 trace = record worked.trace {
   events = lists [] ∷ ListingFailed ∷ lists (worked.shown ∷ []) ∷ Opened a_log 0 worked.sight ∷ lists [] ∷ Closed 3 worked.looks 0 ∷ [];
   began = 0;
@@ -56,22 +57,22 @@ scan_at listing askings = record { moment = 0; listings = listing ∷ []; asking
 abbrev empty : Scan
 empty = scan_at 0 []
 
-abbrev partial : Scan
+abbrev pub partial : Scan
 partial = scan_at 1 []
 
-abbrev showing : Scan
+abbrev pub showing : Scan
 showing = scan_at 2 (asking ∷ [])
 
-abbrev hiding : Scan
+abbrev pub hiding : Scan
 hiding = scan_at 4 []
 
-abbrev run : Run
+abbrev pub run : Run
 run = record worked.run { once = false; trace = trace; scans = empty ∷ partial ∷ showing ∷ hiding ∷ [] }
 
-abbrev file : Filed
+abbrev pub file : Filed
 file = record (file_by worked.input.paths Path None worked.key 3 []) { known_from = 2 }
 
-abbrev files : List Filed
+abbrev pub files : List Filed
 files = file ∷ []
 
 -- ---- what its scans show
@@ -94,7 +95,7 @@ only_entry other shows = elim (there_cases worked.shown other [] (entries_of 2 (
 ]
 
 -- a scan that asked for nothing shows no key
-shows_none : (listing : ℕ) (key : List ℕ) → ShowsKey run (scan_at listing []) key → ⊥
+pub shows_none : (listing : ℕ) (key : List ℕ) → ShowsKey run (scan_at listing []) key → ⊥
 shows_none listing key shows = let asks = shows.shows.shows.1.asks in none_there shows.shows.shows.1.asking asks.of_scan
 
 entry : ShowsEntry trace showing worked.shown
@@ -111,10 +112,10 @@ entry = record {
 asks : AsksFor run showing worked.shown 0 asking
 asks = record { entry = entry; asked_in = tt; of_scan = (0, omega arith, refl); input_is = refl; path_is = refl }
 
-shows_to : ShowsFileTo run showing 0 worked.key 0 worked.shown
+pub shows_to : ShowsFileTo run showing 0 worked.key 0 worked.shown
 shows_to = record { asking = asking; asks = asks; rule = worked.input; rule_is = refl; covered = worked.is_covered; gave = record { no_bytes = tt; number_is = refl; gave = refl } }
 
-first_path : IsFirstPath run showing worked.key 0 a_log
+pub first_path : IsFirstPath run showing worked.key 0 a_log
 first_path = record {
   shows = record { shown = worked.shown; path_is = refl; shows = (0, shows_to) };
   first = λ other shows less.
@@ -160,7 +161,7 @@ by_scans = record {
   own_ids = record { no_colon = ((λ e. cc, tt), tt); ids_apart = (none_there worked.input.id, tt) };
 }
 
-hiding_is_whole : IsWhole run hiding
+pub hiding_is_whole : IsWhole run hiding
 hiding_is_whole = record {
   not_cut_off = refl;
   none_failed = (record { root = root_in other_listing; depth = depth_in other_listing; entries = []; listed = refl }, tt);
@@ -177,13 +178,29 @@ hidden_before (suc zero) scan since until is =
     let q : Some partial ≡ Some scan = is in let same : partial ≡ scan = cc in subst (λ (s : Scan). ¬ (ShowsKey run s worked.key)) same (shows_none 1 worked.key)
 hidden_before (suc (suc number)) scan since until is = absurd (omega (arith, until))
 
-was_removed : WasRemovedSince run file.opened
+pub was_removed : WasRemovedSince run file.opened
 was_removed = record {
   scan = hiding;
   of_run = (3, omega arith, refl);
   whole = hiding_is_whole;
   later = (lit≤ tt, tt);
   hidden = λ path shows. shows_none 4 worked.key (record { number = 0; path = path; shows = shows });
+}
+
+-- as it was listed, before the opening
+abbrev pub shown_last : WasShownLast run file.opened
+shown_last = record {
+  front = empty ∷ partial ∷ [];
+  scan = showing;
+  behind = hiding ∷ [];
+  scans_are = refl;
+  made_before = (lit≤ tt, tt);
+  none_nearer = (λ shows before. absurd (let less : 4 < 3 = before.0 in omega (arith, less)), tt);
+  number = 0;
+  shown = worked.shown;
+  shows = shows_to;
+  path_is = refl;
+  first = first_path;
 }
 
 pub are_followed_so : AllByRecursion (IsFollowedFile run) files
@@ -196,28 +213,19 @@ are_followed_so = (
     tail = record { in_this_run = lit≤ tt; begun = worked.sight; opened = refl; tells = refl };
     told = told_file worked.input.paths Path None worked.key 3 [] (watch_in run) refl (inr was_removed) (own_looks worked.input.paths Path None worked.key 3 []);
     listed = record {
-      last = record {
-        front = empty ∷ partial ∷ [];
-        scan = showing;
-        behind = hiding ∷ [];
-        scans_are = refl;
-        made_before = (lit≤ tt, tt);
-        none_nearer = (λ shows before. absurd (let less : 4 < 3 = before.0 in omega (arith, less)), tt);
-        number = 0;
-        shown = worked.shown;
-        shows = shows_to;
-        path_is = refl;
-        first = first_path;
-      };
+      last = shown_last;
       begins = inl (record { number_is = refl; starts = refl });
     };
     moment = inl refl;
     reopened = tt;
+    first_known = tt;
+    later_known = tt;
+    removed = tt;
   },
   tt,
 )
 
-each_opening : EachOpeningIsOne run files
+pub each_opening : EachOpeningIsOne run files
 each_opening zero path number begun since is = absurd cc
 each_opening (suc zero) path number begun since is = absurd cc
 each_opening (suc (suc zero)) path number begun since is = absurd cc
@@ -234,14 +242,14 @@ has_told = record {
   followed = record {
     each = are_followed_so;
     slots = (omega arith, tt);
-    keys_apart = (none_there worked.key, tt);
-    newly_known = (λ later. record { no_row = inl refl; since = 0; unknown = inl refl; hidden = hidden_before }, tt);
     openings_apart = (none_there 3, tt);
     openings_serve = each_opening;
   };
   talks = (record { most = 2048; talks = has_talks 0 0; none_open = refl }, tt);
   may_go = record { each = tt; apart = tt };
-  behind = record { least = 1; files_below = (omega arith, tt); slots = tt; other_keys = λ one among hidden none. absurd (none_there hidden none) };
+  beside = record { slots = tt; other_slots = λ one among hidden none. absurd (none_there hidden none) };
+  turns = apart_take_turns run files [] (notes_by worked.key).all (none_there worked.key, tt) tt (λ one among hidden none. absurd (none_there hidden none))
+      (λ later. record { no_row = inl refl; since = 0; unknown = inl refl; hidden = hidden_before }, tt);
   told = record {
     each = (
       inl (record { file = file; of_files = (0, omega arith, refl); begins = record { path = a_log; changed = record { 0 = 0 }; is = refl; within = omega arith } }),
@@ -261,6 +269,7 @@ has_told = record {
     notes = [];
     notes_are = λ h. refl;
   };
+  gone = (tt, tt);
 }
 
 -- so it is accounted for, and its file is followed from the third scan on
@@ -268,7 +277,7 @@ pub accounted : IsAccountedFor run files [] (worker ∷ []) (notes_by worked.key
 accounted = is_accounted_for run files [] (worker ∷ []) (notes_by worked.key) has_told
 
 pub followed_from_the_third_scan : (placed : Parcel → Option Place) → AreFollowed run (record worked.following { known_from = 2; tails = record worked.tail { opening = 3 } ∷ [] } ∷ [])
-followed_from_the_third_scan placed = are_followed run by_scans placed files has_told.followed
+followed_from_the_third_scan placed = all_followed run [] has_told.may_go by_scans placed files has_told.followed has_told.beside (notes_by worked.key).all has_told.turns
 
 -- ---- what is refused
 

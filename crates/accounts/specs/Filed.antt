@@ -1,6 +1,6 @@
 -- The files of a run with what was told of them (this project's profile), and their account as a whole. A file is opened again after its
 -- tail was closed: what its tails told, one by one, is joined in one account.
-use Rattle.std.specs.Prelude.{◌≡◌, ℕ, ◌-◌, ◌==◌, List, [], ◌∷◌, ◌++◌, Contains, map, take, Option, None, if◌then◌else◌}
+use Rattle.std.specs.Prelude.{◌≡◌, ℕ, ◌-◌, ◌==◌, List, [], ◌∷◌, ◌++◌, Contains, map, take, Option, None, Some, if◌then◌else◌}
 use Rattle.harvester.specs.History.{History, Telling, told_to}
 use Rattle.kept_rows.specs.Account.{Following, Place, SlotAccount}
 use Rattle.outside.specs.declared.history.Look.{Look}
@@ -23,8 +23,14 @@ pub record Opening : Type 0 where
   pub history : History
   pub looks : List Look
 
--- what its first tail told, the greatest moment of change that was noted of it, the number of the scan from which on its key is known, and the
--- openings behind its first one, in order
+-- of a file whose key a whole scan did not show: the number of that scan, by which its row may go; and where the file left what the run knows,
+-- the number of the last scan before
+pub record Removal : Type 0 where
+  pub hidden_by : ℕ
+  pub left_after : Option ℕ
+
+-- what its first tail told, the greatest moment of change that was noted of it, the number of the scan from which on its key is known, the
+-- openings behind its first one, in order, and how it was removed, if it was and the run told that its row goes
 pub record Filed : Type 0 where
   pub opened : Opened
   pub turned : Turned
@@ -32,12 +38,28 @@ pub record Filed : Type 0 where
   pub changed : ℕ
   pub known_from : ℕ
   pub later : List Opening
+  pub removed : Option Removal
 
 abbrev pub slot_in : Filed → ℕ
 slot_in file = file.opened.begin.slot.0
 
 abbrev pub first_opening : Filed → Opening
 first_opening file = record { opened = file.opened; history = file.turned.history; looks = file.looks }
+
+abbrev pub last_of : Opening → List Opening → Opening
+last_of first [] = first
+last_of first (next ∷ later) = last_of next later
+
+abbrev pub last_opening : Filed → Opening
+last_opening file = last_of (first_opening file) file.later
+
+-- the number of the scan after which it left
+abbrev pub left_by : Option Removal → Option ℕ
+left_by None = None
+left_by (Some removal) = removal.left_after
+
+abbrev pub left_in : Filed → Option ℕ
+left_in file = left_by file.removed
 
 -- ---- what was told of it over all its openings
 
@@ -72,6 +94,10 @@ told_over so_far (next ∷ later) = told_over (told_both so_far next.history) la
 abbrev pub turned_in : Filed → Turned
 turned_in file = record { slot = file.turned.slot; history = told_over file.turned.history file.later }
 
+-- its last epoch
+abbrev pub last_told : Filed → Telling
+last_told file = (turned_in file).history.present
+
 abbrev pub turned_of : List Filed → List Turned
 turned_of files = map turned_in files
 
@@ -91,7 +117,7 @@ following_of file = record {
   epoch = file.opened.begin.epoch.0;
   base = file.opened.begin.base;
   known_from = file.known_from;
-  gone_after = None;
+  gone_after = left_in file;
   tails = tails_of (tails_in file);
 }
 

@@ -3,14 +3,17 @@
 -- slot does. A tail is opened again only after the one before it was closed; it goes on from the end of the last event that was told, in the
 -- same epoch where the file was listed with at least that size, else from the first byte in the next one. By the last scan before an opening that showed
 -- the key it is known with which size and by which path the file was listed.
-use Rattle.std.specs.Prelude.{◌≡◌, ◌≢◌, ◌⊎◌, ℕ, zero, suc, ◌+◌, ◌<◌, ◌≤◌, max, length, List, [], ◌∷◌, ◌++◌, Contains, flat_map, map, slice_get, Option, Some}
+use Rattle.std.specs.Prelude.{◌≡◌, ◌≢◌, ◌⊎◌, ℕ, zero, suc, ◌+◌, ◌<◌, ◌≤◌, max, length, List, [], ◌∷◌, ◌++◌, Contains, flat_map, map, slice_get, Option, Some, IfSome, true}
 use Rattle.std.specs.List.{AllByRecursion}
 use Rattle.file_identity.specs.AskedAgain.{GivesKey}
-use Rattle.harvester.specs.History.{Asks, Changed, Ended, History, Over, Reads, Stage, told_to}
-use Rattle.kept_rows.specs.Followed.{IsBegun, IsClosedBefore, IsNewlyKnown, OnlyReads, Start, asked_openings, start_by}
+use Rattle.file_looks.specs.EndLook.{HasEndLook}
+use Rattle.file_looks.specs.Segment.{Segment, segments_of}
+use Rattle.harvester.specs.History.{Asks, Changed, Ended, History, Over, Reads, Stage, read_to, told_to}
+use Rattle.kept_rows.specs.Followed.{IsBegun, IsClosedBefore, OnlyReads, Start, asked_openings, start_by}
+use Rattle.kept_rows.specs.Lost.{WasClosedBefore}
 use Rattle.kept_rows.specs.Run.{Run, Scan}
-use Rattle.kept_rows.specs.Scans.{AreDistinct, IsBefore, IsFirstPath, ShowsFileTo, ShowsKey, moment_in}
-use Rattle.kept_rows.specs.Telling.{opening_moment}
+use Rattle.kept_rows.specs.Scans.{AreDistinct, IsBefore, IsBehind, IsFirstPath, IsWhole, ShowsFileTo, ShowsKey, moment_in}
+use Rattle.kept_rows.specs.Telling.{begun_moment}
 use Rattle.kept_rows.specs.Trace.{IsTail}
 use Rattle.multiline_core.specs.Rule.{IsGroupRule}
 use Rattle.outside.specs.Folders.{Opened as OpenedAs}
@@ -21,9 +24,10 @@ use Rattle.outside.specs.declared.history.Sight.{Sight}
 use Rattle.ship_core.specs.Rows.{find}
 use Rattle.slot_parts.specs.Account.{goes_on}
 use Rattle.wire_base.specs.declared.row.Row.{Row}
-use Rattle.accounts.specs.Filed.{Filed, Opening, first_opening, following_of, slot_in, tail_by, told_both}
+use Rattle.accounts.specs.Filed.{Filed, Opening, Removal, first_opening, following_of, last_opening, left_in, slot_in, tail_by, told_both}
 use Rattle.accounts.specs.Opened.{Opened}
-use Rattle.accounts.specs.ToldFile.{IsToldFile}
+use Rattle.accounts.specs.ToldFile.{IsToldFile, IsToldToItsEnd}
+use Rattle.accounts.specs.Watch.{Name}
 use Rattle.accounts.specs.Watched.{watch_in}
 
 -- what the tail told, in its own words; the folder's closing has its looks once it is closed
@@ -84,9 +88,9 @@ pub record IsListedAs (run : Run) (file : Filed) : Type 0 where
 
 -- ---- the moment of its last change
 
--- the greater of the moment of the key's opening row and the one with which the entry was shown
+-- the greater of the moment with which the slot begins and the one with which the entry was shown
 abbrev pub moment_by : Run → Filed → Shown → ℕ
-moment_by run file shown = max (opening_moment run.opening file.opened.begin.key) (moment_in shown)
+moment_by run file shown = max (begun_moment run (following_of file)) (moment_in shown)
 
 -- another scan since its key is known showed it by this entry, whose path was the first
 pub record WasShownAlso (run : Run) (file : Filed) (listed : IsListedAs run file) (shown : Shown) : Type 0 where
@@ -99,10 +103,10 @@ pub record WasShownAlso (run : Run) (file : Filed) (listed : IsListedAs run file
   pub shows : ShowsFileTo run scan file.opened.begin.input file.opened.begin.key number shown
   pub first : IsFirstPath run scan file.opened.begin.key number shown.entry.path
 
--- the greatest that was noted: that of the opening row, or one with which a scan listed it
+-- the greatest that was noted: the one with which the slot begins, or one with which a scan listed it
 abbrev pub IsMomentOf : (run : Run) (file : Filed) → IsListedAs run file → Type 0
 IsMomentOf run file listed =
-    (file.changed ≡ opening_moment run.opening file.opened.begin.key)
+    (file.changed ≡ begun_moment run (following_of file))
     ⊎ ((file.changed ≡ moment_by run file listed.last.shown)
     ⊎ ((shown : Shown) × WasShownAlso run file listed shown × (file.changed ≡ moment_by run file shown)))
 
@@ -139,6 +143,45 @@ abbrev pub AreReopened : Run → Opened → Opening → History → List Opening
 AreReopened run first last so_far [] = Unit {0}
 AreReopened run first last so_far (next ∷ later) = IsReopened run first last so_far next × AreReopened run first next (told_both so_far next.history) later
 
+-- ---- removed
+
+-- its looks end with its end look, up to which all complete lines are told
+pub record EndsAtItsEndLook (one : Opening) : Type 0 where
+  pub told : IsToldToItsEnd one.history
+  pub before : List Segment
+  pub last : Segment
+  pub segments_are : segments_of one.opened.begin.base one.looks ≡ before ++ last ∷ []
+  pub found : HasEndLook last (read_to one.history.present)
+  pub nothing_behind : found.behind ≡ []
+
+-- it was opened before the scan, and read to its end
+pub record IsReadBehind (run : Run) (scan : Scan) (one : Opening) : Type 0 where
+  pub opened_before : IsBehind one.opened.opening scan
+  pub ends : EndsAtItsEndLook one
+
+-- a whole scan since its key is known showed no file with it. Either each of its tails was closed before that scan, the last one where it
+-- could be opened again; or the last one was opened before it and read to its end. It left only later
+pub record WasRemovedBy (run : Run) (file : Filed) (removal : Removal) : Type 0 where
+  pub cleans : file.opened.rule.clean_removed ≡ true
+  pub scan : Scan
+  pub scan_is : slice_get run.scans removal.hidden_by ≡ Some scan
+  pub since : file.known_from ≤ removal.hidden_by
+  pub whole : IsWhole run scan
+  pub not_shown : ¬ (ShowsKey run scan (key_in file))
+  pub rests : MayReopenAt (last_opening file).history.stage
+  pub done : AllByRecursion (WasClosedBefore run scan) (following_of file).tails ⊎ IsReadBehind run scan (last_opening file)
+  pub left : IfSome removal.left_after (λ last. removal.hidden_by ≤ last)
+
+-- an opening of a file that was known up to the scan of this number: it was listed for it by no later scan, and none named it since
+pub record IsKnownTo (run : Run) (last : ℕ) (opened : Opened) (shown : WasShownLast run opened) (names : List Name) : Type 0 where
+  pub listed : length shown.front ≤ last
+  pub named : AllByRecursion (λ (name : Name). name.scan ≤ last) names
+
+abbrev pub AreKnownTo : (run : Run) (last : ℕ) (first : Opened) (one : Opening) (so_far : History) (later : List Opening) → AreReopened run first one so_far later → Type 0
+AreKnownTo run last first one so_far [] are = Unit {0}
+AreKnownTo run last first one so_far (next ∷ later) are =
+    IsKnownTo run last next.opened are.0.shown are.0.is.told.history.names × AreKnownTo run last first next (told_both so_far next.history) later are.1
+
 -- ---- together
 
 -- `told` is what outlives its first harvester; the others stand in the settings, the scans and the folder's list
@@ -152,6 +195,10 @@ pub record IsFollowedFile (run : Run) (file : Filed) : Type 0 where
   pub listed : IsListedAs run file
   pub moment : IsMomentOf run file listed
   pub reopened : AreReopened run file.opened (first_opening file) file.turned.history file.later
+  -- where it left, it was known up to then
+  pub first_known : IfSome (left_in file) (λ last. IsKnownTo run last file.opened listed.last told.history.names)
+  pub later_known : IfSome (left_in file) (λ last. AreKnownTo run last file.opened (first_opening file) file.turned.history file.later reopened)
+  pub removed : IfSome file.removed (WasRemovedBy run file)
 
 -- the slots rise from this one on
 abbrev pub AreInSlots : ℕ → List Filed → Type 0
@@ -164,12 +211,9 @@ EachOpeningIsOne run files = (opening : ℕ) (path : List ℕ) (number : ℕ) (b
     slice_get run.trace.events opening ≡ Some (OpenedAs path number begun) →
     Contains (flat_map openings_in files) opening ⊎ OnlyReads run.trace opening
 
--- in the order of their slots; each key is there once, so one that a later scan than the first made known had no row and no other slot; and
--- each opening, those that only asked with them
+-- in the order of their slots; and each opening, those that only asked with them
 pub record AreFollowedFiles (run : Run) (files : List Filed) : Type 0 where
   pub each : AllByRecursion (IsFollowedFile run) files
   pub slots : AreInSlots 0 files
-  pub keys_apart : AreDistinct (map key_in files)
-  pub newly_known : AllByRecursion (λ file. IsNewlyKnown run [] (following_of file)) files
   pub openings_apart : AreDistinct (asked_openings run ++ flat_map openings_in files)
   pub openings_serve : EachOpeningIsOne run files

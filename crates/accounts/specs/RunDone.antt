@@ -1,7 +1,7 @@
 -- What is known besides of a run that ends as done (this project's profile): its last scan was whole, each covered entry of it was followed or
 -- skipped for its reason, each file is told to its end or has another key, and all that was told is settled and collected. A run that reads its
 -- files once makes no other scan.
-use Rattle.std.specs.Prelude.{◌≡◌, ◌⊎◌, ℕ, List, [], ◌∷◌, ◌++◌, Contains, slice_get, Some}
+use Rattle.std.specs.Prelude.{◌≡◌, ◌⊎◌, ℕ, List, [], ◌∷◌, ◌++◌, Contains, slice_get, None, Some}
 use Rattle.std.specs.List.{AllByRecursion, flat_map}
 use Rattle.batch_worker.specs.Held.{notes_of}
 use Rattle.event_tree.specs.declared.input_rule.InputRule.{InputRule}
@@ -56,10 +56,11 @@ pub record HasItsMoment (run : Run) (scan : Scan) (notes : List Note) (file : Fi
   pub slot_is : slot_of note ≡ slot_in file
   pub carries : moment_of note ≡ Some file.changed
 
--- it was opened once, and told to its end or found with another key; where its harvester rests, this is known of it, and stays so once its
+-- it was opened once and not removed, and told to its end or found with another key; where its harvester rests, this is known of it, and stays so once its
 -- tail is closed
 pub record IsToldWhole (run : Run) (scan : Scan) (notes : List Note) (file : Filed) : Type 0 where
   pub alone : file.later ≡ []
+  pub stays : file.removed ≡ None
   pub read_through : IsReadThrough file.turned.history
   pub moment : HasItsMoment run scan notes file
 

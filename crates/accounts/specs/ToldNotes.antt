@@ -1,14 +1,15 @@
--- What a run tells its keeper (this project's profile): how each file begins, and moments of the last changes of files; and how each slot of a
--- hidden row begins, and that its row goes. Nothing is said of their order but that all notes, told and collected, are orderly.
-use Rattle.std.specs.Prelude.{◌≡◌, ◌⊎◌, ℕ, ◌≤◌, List, ◌++◌, Contains}
+-- What a run tells its keeper (this project's profile): how each file begins, moments of the last changes of files, paths that they have since, and
+-- where they end once they were removed; and how each slot of a hidden row begins, and that its row goes. Nothing is said of their order but that all notes, told and collected, are orderly.
+use Rattle.std.specs.Prelude.{◌≡◌, ◌⊎◌, ℕ, ◌≤◌, List, ◌++◌, Contains, Some}
 use Rattle.std.specs.List.{AllByRecursion}
+use Rattle.harvester.specs.History.{told_to}
 use Rattle.pass_sums.specs.Weight.{AsOften}
 use Rattle.ship_core.specs.Orderly.{AreOrderly}
 use Rattle.wire_base.specs.declared.note.Note.{Note}
-use Rattle.wire_base.specs.declared.note.Note.TheVariants.{Begin, Seen}
+use Rattle.wire_base.specs.declared.note.Note.TheVariants.{Begin, Forget, Rename, Seen}
 use Rattle.wire_base.specs.declared.numbers.Moment.{Moment}
 use Rattle.wire_base.specs.declared.parcel.Parcel.{Parcel}
-use Rattle.accounts.specs.Filed.{Filed, IsNoted, turned_of}
+use Rattle.accounts.specs.Filed.{Filed, IsNoted, Removal, last_told, turned_of}
 use Rattle.accounts.specs.Ground.{HasGround}
 use Rattle.accounts.specs.Hidden.{Hidden, hidden_begin, hidden_forget}
 use Rattle.accounts.specs.Opened.{Opened}
@@ -40,9 +41,27 @@ pub record IsOfHidden (hiddens : List Hidden) (note : Note) : Type 0 where
   pub of_hiddens : Contains hiddens hidden
   pub is : (note ≡ hidden_begin hidden) ⊎ (note ≡ hidden_forget hidden)
 
+-- a path of the file, by a scan; nothing follows from which they are
+pub record IsNamingOf (file : Filed) (note : Note) : Type 0 where
+  pub scan : ℕ
+  pub path : List ℕ
+  pub is : note ≡ Rename file.opened.begin.slot scan path
+
+-- the Forget of a file that was removed: its last epoch, and where all that was told of it ends
+pub record IsForgetOf (file : Filed) (note : Note) : Type 0 where
+  pub removal : Removal
+  pub removed : file.removed ≡ Some removal
+  pub is : note ≡ Forget file.opened.begin.slot (record { 0 = (last_told file).epoch }) (told_to (last_told file))
+
+-- that of one of the files
+pub record IsOfFile (files : List Filed) (note : Note) : Type 0 where
+  pub file : Filed
+  pub of_files : Contains files file
+  pub is : IsNamingOf file note ⊎ IsForgetOf file note
+
 -- what the run may tell
 abbrev pub MayTell : List Filed → List Hidden → Note → Type 0
-MayTell files hiddens note = IsBeginOfOne files note ⊎ (IsMomentOfOne files note ⊎ IsOfHidden hiddens note)
+MayTell files hiddens note = IsBeginOfOne files note ⊎ (IsMomentOfOne files note ⊎ (IsOfHidden hiddens note ⊎ IsOfFile files note))
 
 -- each may be told, and the Begin of each file and of each hidden row is among them
 pub record AreToldNotes (files : List Filed) (hiddens : List Hidden) (told : List Note) : Type 0 where
@@ -67,7 +86,7 @@ pub record AreNotesOf (files : List Filed) (hiddens : List Hidden) (acknowledged
   pub hidden_begun : AllByRecursion (λ hidden. Contains notes (hidden_begin hidden)) hiddens
   pub orderly : AreOrderly notes
 
--- ---- the same by files as they were opened, with the greatest moment that was noted of each
+-- ---- the same by files as they were opened, with the greatest moment that was noted of each, as long as none is named anew or removed
 
 pub record IsBeginAs (changed : Opened → ℕ) (opened : Opened) (note : Note) : Type 0 where
   pub path : List ℕ

@@ -129,7 +129,7 @@ greater_of (suc a) (suc b) = elim (greater_of a b) [
   | inr second ↦ inr (omega (arith, second))
 ]
 
-greatest_among : (least : ℕ) (numbers : List ℕ) → (fold max least numbers ≡ least) ⊎ Contains numbers (fold max least numbers)
+pub greatest_among : (least : ℕ) (numbers : List ℕ) → (fold max least numbers ≡ least) ⊎ Contains numbers (fold max least numbers)
 greatest_among least [] = inl refl
 greatest_among least (number ∷ numbers) = go (greatest_among (max least number) numbers)
   where

@@ -11,20 +11,21 @@ use Rattle.outside.specs.declared.history.Shown.{Shown}
 use Rattle.outside.specs.Files.{File, life_of}
 use Rattle.outside.specs.Folders.{Closed, NotThere, Opened}
 use Rattle.ship_core.proofs.Members.{first_there, later_there, none_there, there_cases}
+use Rattle.ship_core.specs.CoveredEnd.{last_end}
 use Rattle.told_events.specs.Licence.{whole_lines_end}
 use Rattle.wire_base.specs.declared.row.Row.{Row}
 use Rattle.kept_rows.specs.Account.{EpochAccount, FollowedTail, Reading, SlotAccount}
 use Rattle.kept_rows.specs.Acknowledged.{WiresGoOn}
 use Rattle.kept_rows.specs.Drained.{HasRow, IsChanged, IsDoneWith, IsDrained, IsOfNoOther, IsPassedOver, IsReadToItsEnd, NothingSupposed, WasOpenedWith}
 use Rattle.file_identity.specs.AskedAgain.{HasOtherKey}
+use Rattle.kept_rows.specs.Epochs.{next_place}
 use Rattle.kept_rows.specs.Going.{AccountReadsOn, EpochReadsOn, EpochRests, EpochsGoOn, IsMadeFrom, ReadingsGoOn, RunGoesOn, SlotRests, TailGoesOn, TailsGoOn}
-use Rattle.kept_rows.specs.Kept.{ClosesSettled}
-use Rattle.kept_rows.specs.Lost.{HadNoOpenTail, IsReadAndSettled, WasClosedBefore, WasClosedBehind, WasInactiveRightly, WasPassedOverAsOld, WasRemovedRightly, moment_or_first}
+use Rattle.kept_rows.specs.Lost.{HadNoOpenTail, HeldBefore, IsReadAndSettled, WasClosedBefore, WasClosedBehind, WasInactiveRightly, WasPassedOverAsOld, WasRemovedRightly, moment_or_first}
 use Rattle.kept_rows.specs.Run.{Asking, Run, Scan}
 use Rattle.kept_rows.specs.Scans.{IsBehind, IsWhole, ShowsKey, moment_in}
 use Rattle.kept_rows.specs.Telling.{opening_moment}
 use Rattle.kept_rows.specs.Trace.{IsTail, WireTold}
-use Rattle.kept_rows.proofs.Growing.{closes_on, epoch_on}
+use Rattle.kept_rows.proofs.Growing.{all_on, epoch_on}
 use Rattle.kept_rows.proofs.Showing.{all_behind, asked_well, asks_stays, both, entry_stays, event_stays, entry_was, first_path_stays, gave_stays, gone_stays, hidden_stays, rule_was, scan_stays, shows_file_stays, shows_to_stays, tail_stays, whole_stays}
 
 -- ---- slots, epochs, readings and tails
@@ -315,14 +316,16 @@ last_on (first ∷ earlier) last (grown ∷ now) on same =
     record { earlier = grown ∷ later.earlier; now = later.now; are = ap (λ (l : List EpochAccount). grown ∷ l) later.are; on = later.on }
 
 settled_stays : (before now : Run) (wires later : List WireTold) (rule : InputRule) (scan : Scan) (one same : SlotAccount) → RunGoesOn before now → WiresGoOn wires later →
-    SlotRests one same → IsReadAndSettled before wires rule scan one → IsReadAndSettled now later rule scan same
-settled_stays before now wires later rule scan one same on grow rests read =
+    SlotRests one same → HeldBefore before now one same → IsReadAndSettled before wires rule scan one → IsReadAndSettled now later rule scan same
+settled_stays before now wires later rule scan one same on grow rests held read =
     let last = last_on read.earlier read.epoch same.epochs
     (subst (λ (l : List EpochAccount). EpochsGoOn EpochRests l same.epochs) read.epochs_are rests.epochs)
     (rests.same_epochs ∙ ap (λ (l : List EpochAccount). length l) read.epochs_are) in
     let end : whole_lines_end rule.lines (life_of read.file last.now.life) last.now.start read.place ≡ whole_lines_end rule.lines (life_of read.file read.epoch.life) read.epoch.start read.place =
     ap (λ (l : ℕ). whole_lines_end rule.lines (life_of read.file l) last.now.start read.place) last.on.same_life
     ∙ ap (λ (s : ℕ). whole_lines_end rule.lines (life_of read.file read.epoch.life) s read.place) last.on.goes_on.same_start in
+    let all = all_on wires later read.epoch.told last.now.told grow last.on.goes_on.told last.on.as_many read.settled in
+    let same_next : next_place last.now ≡ next_place read.epoch = λ k. last_end (last.on.goes_on.same_start k) (all.same_spans k) in
     record {
       earlier = last.earlier;
       epoch = last.now;
@@ -336,13 +339,13 @@ settled_stays before now wires later rule scan one same on grow rests read =
       nothing_behind = read.nothing_behind;
       file = read.file;
       file_is = ap (λ (l : List File). slice_get l same.number) on.trace.same_files ∙ ap (slice_get before.trace.files) rests.same_number ∙ read.file_is;
-      closes = subst (λ (n : ℕ). ClosesSettled later last.now n) (sym end)
-          (closes_on wires later read.epoch last.now (whole_lines_end rule.lines (life_of read.file read.epoch.life) read.epoch.start read.place) grow last.on.goes_on read.closes);
+      settled = all.each;
+      all_told = λ premises. same_next ∙ read.all_told (held premises) ∙ sym end;
     }
 
 pub stays_removed : (before now : Run) (wires later : List WireTold) (rule : InputRule) (one same : SlotAccount) → RunGoesOn before now → WiresGoOn wires later →
-    SlotRests one same → WasRemovedRightly before wires rule one → WasRemovedRightly now later rule same
-stays_removed before now wires later rule one same on grow rests removed = record {
+    SlotRests one same → HeldBefore before now one same → WasRemovedRightly before wires rule one → WasRemovedRightly now later rule same
+stays_removed before now wires later rule one same on grow rests held removed = record {
   cleans = removed.cleans;
   number = removed.number;
   scan = removed.scan;
@@ -353,7 +356,7 @@ stays_removed before now wires later rule one same on grow rests removed = recor
       (hidden_stays before now removed.scan one.following.key on removed.whole removed.hidden);
   done = elim removed.done [
     | inl none ↦ inl (none_open before now removed.scan one same on rests none)
-    | inr read ↦ inr (settled_stays before now wires later rule removed.scan one same on grow rests read)
+    | inr read ↦ inr (settled_stays before now wires later rule removed.scan one same on grow rests held read)
   ];
 }
 

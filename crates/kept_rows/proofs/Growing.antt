@@ -1,5 +1,5 @@
 -- Kept rows stay kept, and what was told stays told, as the account tells more and talks grow.
-use Rattle.std.proofs.Common.{◌≡◌, inl, inr, ℕ, Bool, true, false, cond, eqb, List, [], ◌∷◌, ◌++◌, Option, Some, None, refl, sym, ap, ◌∙◌, subst}
+use Rattle.std.proofs.Common.{◌≡◌, inl, inr, ℕ, Bool, true, false, cond, eqb, List, [], ◌∷◌, ◌++◌, length, Option, Some, None, refl, sym, ap, ◌∙◌, subst, arith}
 use Rattle.std.specs.List.{AllByRecursion, Contains}
 use Rattle.std.specs.Option.{option_and_then}
 use Rattle.wire_base.specs.Extent.{Extent}
@@ -91,6 +91,23 @@ closes_on wires later before now offset grow on closes =
       told_is = front.now_is;
       each = front.each;
       ends = ap (last_end now.start) front.same_spans ∙ ap (λ (n : ℕ). last_end n (spans_of closes.front)) on.same_start ∙ closes.ends;
+    }
+
+-- where nothing more is told, all of it
+pub record AllGrown (wires : List WireTold) (before now : List AccountedEvent) : Type 0 where
+  pub each : AllByRecursion (IsSettled wires) now
+  pub same_spans : spans_of now ≡ spans_of before
+
+pub all_on : (wires later : List WireTold) (before now : List AccountedEvent) → WiresGoOn wires later → ToldGoesOn before now → length now ≡ length before →
+    AllByRecursion (IsSettled wires) before → AllGrown later before now
+all_on wires later [] [] grow on same settled = record { each = tt; same_spans = refl }
+all_on wires later [] (more ∷ now) grow on same settled = absurd (omega (arith, same))
+all_on wires later (one ∷ before) [] grow on same settled = absurd on
+all_on wires later (one ∷ before) (grown ∷ now) grow on same settled =
+    let others = all_on wires later before now grow on.2 (omega (arith, same)) settled.1 in
+    record {
+      each = (settled_on wires later one grown grow on.0 on.1 settled.0, others.each);
+      same_spans = λ k. (on.0 k).span ∷ others.same_spans k;
     }
 
 pub stays_kept : (before now : List SlotAccount) (wires later : List WireTold) (row : Row) → AccountGoesOn before now → WiresGoOn wires later → IsToldRow before wires row → IsToldRow now later row

@@ -1,8 +1,9 @@
 -- Rows over the first of backed notes are kept.
-use Rattle.std.proofs.Common.{◌≡◌, ◌⊎◌, inl, inr, ℕ, cond, if◌then◌else◌, List, [], ◌∷◌, ◌++◌, max, Some, None, refl, sym, ap, ◌∙◌, subst, append_assoc}
+use Rattle.std.proofs.Common.{◌≡◌, ◌⊎◌, inl, inr, ℕ, ◌<◌, ◌≤◌, cond, if◌then◌else◌, List, [], ◌∷◌, ◌++◌, max, Some, None, refl, sym, ap, ◌∙◌, subst, append_assoc, arith}
 use Rattle.std.specs.List.{Contains, filter, fold}
 use Rattle.std.specs.Option.{is_some}
 use Rattle.std.specs.Ordering.{is_eq}
+use Rattle.std.proofs.lemmas.Bool.{cases_lt}
 use Rattle.std.specs.declared.cmp.Ordering.{Ordering}
 use Rattle.std.specs.declared.cmp.Ordering.TheVariants.{Less, Equal, Greater}
 use Rattle.wire_base.specs.KeyOrder.{compare}
@@ -14,12 +15,11 @@ use Rattle.ship_core.specs.RowOver.{row_over}
 use Rattle.ship_core.specs.Rows.{IsBefore, IsInOrder, find}
 use Rattle.ship_core.specs.RowsOver.{AreRowsOver, row_among, row_for, row_of_greatest, slots_for}
 use Rattle.told_events.proofs.Going.{all_front}
-use Rattle.kept_rows.specs.Account.{SlotAccount, slot_of}
-use Rattle.kept_rows.specs.Backed.{AreBacked, AreBegun, AreInRows, AreRowsOverFronts, Backs, IsRowOverAFront}
+use Rattle.kept_rows.specs.Account.{SlotAccount, key_of, slot_at, slot_of}
+use Rattle.kept_rows.specs.Backed.{AreBacked, AreBegun, AreInRows, AreRowsOverFronts, Backs, IsRowOverAFront, OnlyTheNewestHaveRows}
 use Rattle.kept_rows.specs.Kept.{IsKept, IsKeptInImage, IsNewestSlot, IsUnbegun, StandsAsOpened}
 use Rattle.kept_rows.specs.Trace.{WireTold}
-use Rattle.kept_rows.proofs.Backing.{ClosesBy, row_is_kept, row_is_told_at}
-use Rattle.kept_rows.proofs.Newest.{NoneIsNewer, greatest_is_newest, newest_slot}
+use Rattle.kept_rows.proofs.Backing.{ClosesBy, row_is_kept, row_is_told_at, slot_in}
 
 -- a row that is found has the key
 pub found_key : (key : List ℕ) (rows : List Row) (row : Row) → find key rows ≡ Some row → key ≡ row.key
@@ -42,26 +42,24 @@ as_opened key opening row is = record {
   same_offset = refl;
 }
 
--- a row over notes that is that of a slot, the newest of its key that has one
-pub record IsRowOfSlot (notes : List Note) (key : List ℕ) (row : Row) : Type 0 where
+-- a row over notes that is that of a slot
+pub record IsRowOfSlot (notes : List Note) (row : Row) : Type 0 where
   pub slot : ℕ
   pub is : row_over slot notes ≡ Some row
-  pub newest : NoneIsNewer notes key slot
 
 -- so it is, or it is the opening one of a key to which no Begin gave a slot
 pub row_for_cases : (opening : List Row) (notes : List Note) (key : List ℕ) (row : Row) → row_for opening notes key ≡ Some row →
-    IsRowOfSlot notes key row ⊎ ((slots_for key notes ≡ []) × (find key opening ≡ Some row))
+    IsRowOfSlot notes row ⊎ ((slots_for key notes ≡ []) × (find key opening ≡ Some row))
 row_for_cases opening notes key row is = go (slots_for key notes) refl is
   where
-    greatest : (slots : List ℕ) → filter (λ given. is_some (row_over given notes)) (slots_for key notes) ≡ slots → row_of_greatest notes slots ≡ Some row → IsRowOfSlot notes key row
-    greatest [] are e = absurd (let q : None ≡ Some row = e in cc)
-    greatest (slot ∷ slots) are e = record { slot = fold max slot slots; is = e; newest = greatest_is_newest notes key slot slots are }
+    greatest : (slots : List ℕ) → row_of_greatest notes slots ≡ Some row → IsRowOfSlot notes row
+    greatest [] e = absurd (let q : None ≡ Some row = e in cc)
+    greatest (slot ∷ slots) e = record { slot = fold max slot slots; is = e }
 
     go : (slots : List ℕ) → slots_for key notes ≡ slots → row_among opening notes key slots ≡ Some row →
-        IsRowOfSlot notes key row ⊎ ((slots_for key notes ≡ []) × (find key opening ≡ Some row))
+        IsRowOfSlot notes row ⊎ ((slots_for key notes ≡ []) × (find key opening ≡ Some row))
     go [] none e = inr (none, e)
-    go (slot ∷ slots) some e =
-        inl (greatest (filter (λ given. is_some (row_over given notes)) (slot ∷ slots)) (ap (filter (λ given. is_some (row_over given notes))) some) e)
+    go (slot ∷ slots) some e = inl (greatest (filter (λ given. is_some (row_over given notes)) (slot ∷ slots)) e)
 
 pub kept_in_image : ClosesBy → (account : List SlotAccount) (opening : List Row) (wires : List WireTold) (notes : List Note) (rows : List Row) → AreInRows account →
     AreBacked account wires notes → AreRowsOverFronts opening notes rows → (key : List ℕ) (row : Row) → find key rows ≡ Some row → IsKeptInImage account opening wires row
@@ -79,16 +77,31 @@ unbegun [] notes key begun none = tt
 unbegun (one ∷ account) notes key begun none =
     (λ same. none_there (slot_of one) (subst (λ (l : List ℕ). Contains l (slot_of one)) (ap (λ (k : List ℕ). slots_for k notes) same ∙ none) begun.0), unbegun account notes key begun.1 none)
 
+-- a slot that has a row is the newest one of its key
+is_newest : (account : List SlotAccount) (notes : List Note) → OnlyTheNewestHaveRows account notes → (row : Row) (slot : ℕ) (one : SlotAccount) → slot_at slot account ≡ Some one →
+    key_of one ≡ row.key → row_over slot notes ≡ Some row → IsNewestSlot account row.key slot
+is_newest account notes newest row slot one slot_is key_is is other another other_is same_key = by_order (cases_lt slot other)
+  where
+    by_order : (slot < other) ⊎ (other ≤ slot) → other ≤ slot
+    by_order (inr within) = within
+    by_order (inl later) =
+        let of = slot_in account slot one slot_is in
+        let its = slot_in account other another other_is in
+        let mine = of.1 in
+        let theirs = its.1 in
+        let none = newest one another of.0 its.0 (key_is ∙ sym same_key) (omega (arith, later, mine, theirs)) in
+        absurd (let q : None ≡ Some row = sym none ∙ ap (λ (n : ℕ). row_over n notes) of.1 ∙ is in cc)
+
 pub kept_at_the_end : ClosesBy → (account : List SlotAccount) (opening : List Row) (wires : List WireTold) (notes : List Note) (rows : List Row) → AreInRows account →
-    AreBacked account wires notes → AreBegun account notes → AreRowsOver opening notes rows → (key : List ℕ) (row : Row) → find key rows ≡ Some row → IsKept account opening wires row
-kept_at_the_end closes account opening wires notes rows in_rows backed begun over key row is =
+    AreBacked account wires notes → AreBegun account notes → OnlyTheNewestHaveRows account notes → AreRowsOver opening notes rows → (key : List ℕ) (row : Row) → find key rows ≡ Some row →
+    IsKept account opening wires row
+kept_at_the_end closes account opening wires notes rows in_rows backed begun newest over key row is =
     elim (row_for_cases opening notes key row (sym (over.each key) ∙ is)) [
       | inl of ↦
           let told = row_is_told_at of.slot row closes account wires notes in_rows backed of.is in
           inl (record {
             told = told.0;
-            newest = subst (IsNewestSlot account row.key) (sym told.1)
-                (subst (λ (k : List ℕ). IsNewestSlot account k of.slot) (found_key key rows row is) (newest_slot account wires notes backed begun key of.slot of.newest));
+            newest = is_newest account notes newest row told.0.slot told.0.one told.0.slot_is told.0.key_is (ap (λ (n : ℕ). row_over n notes) told.1 ∙ of.is);
           })
       | inr opened ↦ inr (
         subst (IsUnbegun account) (found_key key opening row opened.1) (unbegun account notes key begun opened.0),

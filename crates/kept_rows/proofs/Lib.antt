@@ -3,12 +3,12 @@ pub mod Backing
 pub mod Begun
 pub mod Closings
 pub mod Draining
+pub mod Forgotten
 pub mod Growing
 pub mod Images
 pub mod Joining
 pub mod Keys
 pub mod Links
-pub mod Newest
 pub mod Showing
 pub mod Storing
 pub mod Supposing

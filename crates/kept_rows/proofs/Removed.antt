@@ -1,6 +1,6 @@
 -- Worked scans: a row whose file is no longer there goes rightly, and one whose file is listed does not; a file that was
 -- renamed while it was open is told by the path of a scan that showed it.
-use Rattle.std.proofs.Common.{◌≡◌, ◌≢◌, inl, inr, ℕ, zero, suc, ◌<◌, true, false, List, [], ◌∷◌, Some, None, refl, sym, ap, ◌∙◌, subst, arith, lit≤, codes}
+use Rattle.std.proofs.Common.{◌≡◌, ◌≢◌, inl, inr, ℕ, zero, suc, ◌<◌, true, false, List, [], ◌∷◌, Some, None, refl, sym, ap, ◌∙◌, subst, arith, append-nil, lit≤, codes}
 use Rattle.std.specs.Char.{encode_utf8}
 use Rattle.std.specs.List.{Contains, slice_get}
 use Rattle.std.specs.Str.{chars, is_utf8}
@@ -14,18 +14,22 @@ use Rattle.glob_paths.specs.Root.{depth_of, root_of}
 use Rattle.glob_paths.specs.Sign.{signs}
 use Rattle.glob_paths.specs.Token.{tokens}
 use Rattle.outside.specs.declared.history.Shown.{Shown}
+use Rattle.outside.specs.Files.{life_of}
 use Rattle.outside.specs.Folders.{Event, Listed, Opened}
 use Rattle.ship_core.proofs.Members.{none_there, there_cases}
 use Rattle.told_events.proofs.Worked.{a_log, event_of, first_line, life, payload}
+use Rattle.told_events.specs.Licence.{whole_lines_end}
 use Rattle.told_events.specs.Told.{ToldEvent}
 use Rattle.wire_base.specs.declared.row.Row.{Row}
 use Rattle.wire_base.specs.KeyOrder.{compare}
 use Rattle.kept_rows.specs.Account.{EpochAccount, Reading, SlotAccount}
-use Rattle.kept_rows.specs.Lost.{IsRightlyLost, IsRightlyLostInImage}
+use Rattle.kept_rows.specs.Kept.{ClosesSettled}
+use Rattle.kept_rows.specs.Lost.{IsReadAndSettled, IsRightlyLost, IsRightlyLostInImage}
+use Rattle.kept_rows.specs.Premises.{SlotPremises}
 use Rattle.kept_rows.specs.Run.{Asking, Run, Scan}
 use Rattle.kept_rows.specs.Scans.{IsFirstPath, IsWhole, ShowsEntry, ShowsFile, ShowsKey}
 use Rattle.kept_rows.specs.Telling.{IsPathOf}
-use Rattle.kept_rows.specs.Trace.{Trace}
+use Rattle.kept_rows.specs.Trace.{Trace, WireTold}
 use Rattle.kept_rows.proofs.Worked.{input, key, looks, reading, row, run, scan, settings, shows_file, sight, slot_account, wires}
 
 pub only_one : {A : Type 0} (one other : A) → Contains (one ∷ []) other → one ≡ other
@@ -96,6 +100,14 @@ absent_row_went = record {
 
 pub absent_row_goes_rightly : IsRightlyLost empty_run (absent ∷ []) [] key
 absent_row_goes_rightly = record { lost = absent_row_went; newest = ((λ same. omega arith), tt) }
+
+-- ---- read to its end and settled
+
+-- where the premises of the slot hold, a row at the end of the last complete line at the end look, or at the start place, would be kept
+pub row_at_the_end_would_be_kept : (run : Run) (wires : List WireTold) (rule : InputRule) (scan : Scan) (one : SlotAccount) (read : IsReadAndSettled run wires rule scan one) →
+    SlotPremises run one.following → ClosesSettled wires read.epoch (whole_lines_end rule.lines (life_of read.file read.epoch.life) read.epoch.start read.place)
+row_at_the_end_would_be_kept run wires rule scan one read premises =
+    record { front = read.epoch.told; rest = []; told_is = sym (append-nil read.epoch.told); each = read.settled; ends = read.all_told premises }
 
 -- ---- the file of two plain lines is listed, so its row may not go
 

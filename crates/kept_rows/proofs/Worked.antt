@@ -1,7 +1,7 @@
 -- A worked account: the file of two plain lines, read once, both events acknowledged. The row at its end is kept, the
 -- folder is drained, only told events were sent, and the premises hold. Before the run the folder took a tail of another
 -- folder back, which had the number that the run's own opening gets only later.
-use Rattle.std.proofs.Common.{◌≡◌, ◌≢◌, inl, inr, ℕ, zero, suc, ◌<◌, ◌≤◌, true, false, List, [], ◌∷◌, ◌++◌, IsSome, Some, None, refl, sym, ap, ◌∙◌, subst, arith, append-nil, lit≤, codes}
+use Rattle.std.proofs.Common.{◌≡◌, ◌≢◌, inl, inr, ℕ, zero, suc, ◌<◌, ◌≤◌, true, false, List, [], ◌∷◌, ◌++◌, Some, None, refl, sym, ap, ◌∙◌, subst, arith, append-nil, lit≤, codes}
 use Rattle.std.specs.Char.{encode_utf8}
 use Rattle.std.specs.List.{AllByRecursion, Contains, slice_get, slice_index_or}
 use Rattle.std.specs.Str.{chars, is_utf8}
@@ -434,22 +434,22 @@ both_lines_are_told = record {
 }
 
 only_slot : IsNewestSlot (slot_account ∷ []) key 0
-only_slot newer one is same above =
-    let of = slot_in (slot_account ∷ []) newer one is in
+only_slot other one is same =
+    let of = slot_in (slot_account ∷ []) other one is in
     elim (there_cases slot_account one [] of.0) [
-      | inl here ↦ absurd (let slot : 0 ≡ newer = ap slot_of here ∙ of.1 in omega (arith, slot, above))
+      | inl here ↦ let slot : 0 ≡ other = ap slot_of here ∙ of.1 in omega (arith, slot)
       | inr nothing ↦ absurd (none_there one nothing)
     ]
 
 pub both_lines_are_kept : IsKept (slot_account ∷ []) [] wires row
 both_lines_are_kept = inl (record { told = both_lines_are_told; newest = only_slot })
 
--- where a newer slot of the key is not gone, the row of this one is not
+-- where the key has a newer slot, no row of this one is kept
 abbrev newer : SlotAccount
 newer = record slot_account { following = record following { slot = 1; known_from = 1; tails = [] } }
 
 older_slot_is_refused : (is : IsNewestRow (slot_account ∷ newer ∷ []) wires row) → is.told.slot ≡ 0 → ⊥
-older_slot_is_refused is older = absurd (let none : IsSome newer.following.gone_after = is.newest 1 newer refl refl (omega (arith, older)) in cc)
+older_slot_is_refused is older = let within = is.newest 1 newer refl refl in omega (arith, older, within)
 
 -- ---- the folder is drained
 

@@ -1,11 +1,12 @@
 -- Notes that are backed by an account (this project's profile): a Begin names the key, the epoch and the place with which
--- its slot was begun; an Announce names an epoch that the slot had, and a Forget, of a slot that is gone, the last one and its last told place; a Settle is of a told event that its rule
+-- its slot was begun; an Announce names an epoch that the slot had, and a Forget the last one and its last told place; a Settle is of a told event that its rule
 -- drops, or whose payload is acknowledged at the place that the account gives it; no moment is above the greatest that was
 -- noted of the slot. A Rename says nothing of offsets.
-use Rattle.std.specs.Prelude.{◌≡◌, ℕ, ◌≤◌, List, [], ◌∷◌, ◌++◌, Contains, Some, IsSome}
+use Rattle.std.specs.Prelude.{◌≡◌, ℕ, ◌<◌, ◌≤◌, List, [], ◌∷◌, ◌++◌, Contains, None, Some, IsSome}
 use Rattle.std.specs.List.{AllByRecursion}
 use Rattle.ship_core.specs.CoveredEnd.{Adjoin}
 use Rattle.ship_core.specs.Rows.{IsInOrder, find}
+use Rattle.ship_core.specs.RowOver.{row_over}
 use Rattle.ship_core.specs.RowsOver.{row_for, slots_for}
 use Rattle.told_events.specs.Fate.{cause_of_fate}
 use Rattle.wire_base.specs.Extent.{Extent}
@@ -42,11 +43,10 @@ pub record BacksSettle (account : List SlotAccount) (wires : List WireTold) (slo
   pub cause_is : cause_of_fate one.event.fate ≡ cause
   pub settled : IsSettled wires one
 
--- the slot is gone, the epoch is its last, and the place is the end of what was told of it
+-- the epoch is the slot's last, and the place is the end of what was told of it
 pub record BacksForget (account : List SlotAccount) (slot epoch end : ℕ) : Type 0 where
   pub one : SlotAccount
   pub slot_is : slot_at slot account ≡ Some one
-  pub gone : IsSome one.following.gone_after
   pub earlier : List EpochAccount
   pub last : EpochAccount
   pub epochs_are : one.epochs ≡ earlier ++ last ∷ []
@@ -68,6 +68,11 @@ AreBacked account wires notes = AllByRecursion (Backs account wires) notes
 -- each slot's Begin is among the notes
 abbrev pub AreBegun : List SlotAccount → List Note → Type 0
 AreBegun account notes = AllByRecursion (λ one. Contains (slots_for (key_of one) notes) (slot_of one)) account
+
+-- a slot whose key has a newer one has no row over the notes
+abbrev pub OnlyTheNewestHaveRows : List SlotAccount → List Note → Type 0
+OnlyTheNewestHaveRows account notes = (one newer : SlotAccount) → Contains account one → Contains account newer →
+    key_of one ≡ key_of newer → slot_of one < slot_of newer → row_over (slot_of one) notes ≡ None
 
 -- in each epoch the told spans adjoin from its start on, and the epochs are numbered from the slot's first
 pub record IsInOneRow (one : SlotAccount) : Type 0 where

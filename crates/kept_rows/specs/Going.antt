@@ -88,8 +88,10 @@ AccountReadsOn before now = (slot : ℕ) (one : SlotAccount) → slot_at slot be
 
 -- ---- a file that is followed no further
 
+-- nothing more is told of it
 pub record EpochRests (before now : EpochAccount) : Type 0 where
   pub goes_on : EpochGoesOn before now
+  pub as_many : length now.told ≡ length before.told
   pub same_life : now.life ≡ before.life
   pub same_readings : now.readings ≡ before.readings
 

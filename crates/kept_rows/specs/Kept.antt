@@ -1,7 +1,7 @@
 -- Kept rows (this project's profile of Filebeat's registry): the offset is the place from which the row's epoch is told, or
 -- ends the last of the first told events of that epoch, each of which was dropped by its rule or is acknowledged at the
 -- place that the account gives it. A row of a key that was not begun stands as the run found it.
-use Rattle.std.specs.Prelude.{◌≡◌, ◌≢◌, ◌⊎◌, ℕ, ◌<◌, List, ◌++◌, Option, Some, None, IsSome}
+use Rattle.std.specs.Prelude.{◌≡◌, ◌≢◌, ◌⊎◌, ℕ, ◌≤◌, List, ◌++◌, Option, Some, None}
 use Rattle.std.specs.List.{AllByRecursion}
 use Rattle.ship_core.specs.CoveredEnd.{last_end}
 use Rattle.ship_core.specs.Rows.{find}
@@ -38,12 +38,11 @@ pub record IsToldRow (account : List SlotAccount) (wires : List WireTold) (row :
   pub epoch_is : epoch_at row.epoch.0 one.epochs ≡ Some epoch
   pub closes : ClosesSettled wires epoch row.offset
 
--- each newer slot of the key is gone
+-- no slot of the key is newer
 abbrev pub IsNewestSlot : List SlotAccount → List ℕ → ℕ → Type 0
-IsNewestSlot account key slot =
-    (newer : ℕ) (one : SlotAccount) → slot_at newer account ≡ Some one → key_of one ≡ key → slot < newer → IsSome one.following.gone_after
+IsNewestSlot account key slot = (other : ℕ) (one : SlotAccount) → slot_at other account ≡ Some one → key_of one ≡ key → other ≤ slot
 
--- by the account of the newest slot of its key that is not gone
+-- by the account of the newest slot of its key
 pub record IsNewestRow (account : List SlotAccount) (wires : List WireTold) (row : Row) : Type 0 where
   pub told : IsToldRow account wires row
   pub newest : IsNewestSlot account row.key told.slot

@@ -11,7 +11,9 @@ use Rattle.outside.specs.Folders.{Closed}
 use Rattle.outside.specs.declared.history.Look.{Look}
 use Rattle.told_events.specs.Licence.{whole_lines_end}
 use Rattle.kept_rows.specs.Account.{EpochAccount, FollowedTail, Reading, SlotAccount, key_of, slot_of}
-use Rattle.kept_rows.specs.Kept.{ClosesSettled}
+use Rattle.kept_rows.specs.Epochs.{next_place}
+use Rattle.kept_rows.specs.Kept.{IsSettled}
+use Rattle.kept_rows.specs.Premises.{SlotPremises}
 use Rattle.kept_rows.specs.Run.{Run, Scan}
 use Rattle.kept_rows.specs.Scans.{IsBehind, IsFirstPath, IsOld, IsWhole, ShowsFileAt, ShowsKey}
 use Rattle.kept_rows.specs.Trace.{WireTold}
@@ -32,8 +34,9 @@ HadNoOpenTail run scan one = AllByRecursion (WasClosedBefore run scan) one.follo
 
 -- ---- it was removed
 
--- the last looks of its last tail, which was open as the scan was made, are its end look, and a row at the end of the last complete line there, or at the start
--- place where there is none, would be kept
+-- the last looks of its last tail, which was open as the scan was made, are its end look, and all that was told of its last epoch is settled. It ends
+-- at the end of the last complete line there, or at the start place where there is none, so that a row there would be kept: this supposes the
+-- premises of the slot, since by these alone all bytes that were read of the epoch are of its life. Nothing else supposes anything
 pub record IsReadAndSettled (run : Run) (wires : List WireTold) (rule : InputRule) (scan : Scan) (one : SlotAccount) : Type 0 where
   pub earlier : List EpochAccount
   pub epoch : EpochAccount
@@ -47,7 +50,8 @@ pub record IsReadAndSettled (run : Run) (wires : List WireTold) (rule : InputRul
   pub nothing_behind : found.behind ≡ []
   pub file : File
   pub file_is : slice_get run.trace.files one.number ≡ Some file
-  pub closes : ClosesSettled wires epoch (whole_lines_end rule.lines (life_of file epoch.life) epoch.start place)
+  pub settled : AllByRecursion (IsSettled wires) epoch.told
+  pub all_told : SlotPremises run one.following → next_place epoch ≡ whole_lines_end rule.lines (life_of file epoch.life) epoch.start place
 
 -- a whole scan, made at or after the one at which the key was begun, showed no file with it
 pub record WasRemovedRightly (run : Run) (wires : List WireTold) (rule : InputRule) (one : SlotAccount) : Type 0 where
@@ -59,6 +63,10 @@ pub record WasRemovedRightly (run : Run) (wires : List WireTold) (rule : InputRu
   pub whole : IsWhole run scan
   pub hidden : ¬ (ShowsKey run scan one.following.key)
   pub done : HadNoOpenTail run scan one ⊎ IsReadAndSettled run wires rule scan one
+
+-- as the run goes on, the premises of the slot hold of what was before
+abbrev pub HeldBefore : Run → Run → SlotAccount → SlotAccount → Type 0
+HeldBefore before now one same = SlotPremises now same.following → SlotPremises before one.following
 
 -- ---- it had not changed for long
 

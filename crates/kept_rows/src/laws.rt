@@ -2,12 +2,12 @@ ghost use Rattle.std.specs.Prelude.{◌≡◌, ℕ, List, [], ◌∷◌, ◌++�
 ghost use Rattle.event_tree.specs.declared.input_rule.InputRule.{InputRule};
 ghost use Rattle.kept_rows.specs.Account.{Place, SlotAccount};
 ghost use Rattle.kept_rows.specs.Acknowledged.{IsAcknowledgedAt, TalksGoOn, WiresGoOn, talks_of};
-ghost use Rattle.kept_rows.specs.Backed.{AreBacked, AreBegun, AreInRows, AreRowsOverFronts};
+ghost use Rattle.kept_rows.specs.Backed.{AreBacked, AreBegun, AreInRows, AreRowsOverFronts, OnlyTheNewestHaveRows};
 ghost use Rattle.kept_rows.specs.Drained.{IsDrained, SlotsGiveTheWhole};
 ghost use Rattle.kept_rows.specs.Going.{AccountGoesOn, AccountReadsOn, RunGoesOn, SlotRests};
 ghost use Rattle.kept_rows.specs.InARow.{Adjoined, GoesOnBehind, Part};
 ghost use Rattle.kept_rows.specs.Kept.{IsKept, IsKeptInImage, IsToldRow};
-ghost use Rattle.kept_rows.specs.Lost.{WasInactiveRightly, WasRemovedRightly};
+ghost use Rattle.kept_rows.specs.Lost.{HeldBefore, WasInactiveRightly, WasRemovedRightly};
 ghost use Rattle.kept_rows.specs.Run.{Run};
 ghost use Rattle.kept_rows.specs.Sent.{SendsOnlyTold};
 ghost use Rattle.kept_rows.specs.Trace.{WireTold};
@@ -37,7 +37,8 @@ pub fn rows_over_backed_notes_are_kept()
         IsKeptInImage account opening wires row }
     ensures end { (account : List SlotAccount) (opening : List Row) (wires : List WireTold)
         (notes : List Note) (rows : List Row) → AreInRows account →
-        AreBacked account wires notes → AreBegun account notes → AreRowsOver opening notes rows →
+        AreBacked account wires notes → AreBegun account notes →
+        OnlyTheNewestHaveRows account notes → AreRowsOver opening notes rows →
         (key : List ℕ) (row : Row) → find key rows ≡ Some row → IsKept account opening wires row }
 {
     covered_end_closes_a_prefix();
@@ -107,7 +108,7 @@ pub fn drained_folders_stay_drained()
 pub fn lost_rows_stay_lost()
     ensures removed { (before now : Run) (wires later : List WireTold) (rule : InputRule)
         (one same : SlotAccount) → RunGoesOn before now → WiresGoOn wires later →
-        SlotRests one same →
+        SlotRests one same → HeldBefore before now one same →
         WasRemovedRightly before wires rule one → WasRemovedRightly now later rule same }
     ensures inactive { (before now : Run) (rule : InputRule) (one same : SlotAccount) →
         RunGoesOn before now → SlotRests one same →

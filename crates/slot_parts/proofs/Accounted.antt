@@ -73,7 +73,7 @@ last_life_behind : (life : ℕ) (steps more : List Step) → last_life life (ste
 last_life_behind life [] more = refl
 last_life_behind life (step ∷ steps) more = last_life_behind (life_behind life step) steps more
 
-life_read_is : (life : ℕ) (parts : List Part) → life_read life (map reading_of parts) ≡ last_life_of life (segments_in parts)
+pub life_read_is : (life : ℕ) (parts : List Part) → life_read life (map reading_of parts) ≡ last_life_of life (segments_in parts)
 life_read_is life [] = refl
 life_read_is life (part ∷ parts) =
     last_life_behind life (steps_in part.segment) (flat_map (λ (reading : Reading). steps_in reading.segment) (map reading_of parts))
