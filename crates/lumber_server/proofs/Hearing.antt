@@ -7,7 +7,7 @@ use Rattle.outside.specs.declared.link.Recv.{Recv}
 use Rattle.outside.specs.declared.link.Recv.TheVariants.{Got, Closed, NotYet, Failed}
 use Rattle.wire_base.specs.declared.talk.Piece.{Piece}
 use Rattle.wire_base.specs.declared.talk.Piece.TheVariants.{In}
-use Rattle.lumber_server.specs.Changes.{TalkGoesOn}
+use Rattle.lumber_answers.specs.Changes.{TalkGoesOn}
 use Rattle.lumber_server.specs.Receiving.{IsHeard, IsNothingHeard, IsPieceHeard}
 
 talk_by_piece : (told after : Option Talk) (into : List ℕ) (count : ℕ) → TellsReceiving told into (Got count) after → TalkGoesOn told (In (take count into) ∷ []) after

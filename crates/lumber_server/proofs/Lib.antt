@@ -1,5 +1,3 @@
-pub mod Sending
-pub mod Laying
 pub mod Moving
 pub mod Taking
 pub mod Stopping

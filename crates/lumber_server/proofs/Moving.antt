@@ -11,9 +11,9 @@ use Rattle.lumber_frame.specs.declared.frame.Frame.{Frame}
 use Rattle.lumber_frame.specs.Frame.{BeginsWithFrame, IsFrame, frame_bytes}
 use Rattle.lumber_frame.proofs.Frames.{spelled}
 use Rattle.lumber_frame.proofs.Staying.{in_append, out_append}
-use Rattle.lumber_server.specs.Changes.{Sends, SinkTakes}
-use Rattle.lumber_server.specs.HandingOn.{FailsToHandOn, FailsToSend, FailsToWrite, Told, telling}
-use Rattle.lumber_server.specs.Laying.{WritesFront}
+use Rattle.lumber_answers.specs.Changes.{Sends, SinkTakes}
+use Rattle.lumber_answers.specs.HandingOn.{FailsToHandOn, FailsToSend, FailsToWrite, Told, telling}
+use Rattle.lumber_answers.specs.Laying.{WritesFront}
 use Rattle.lumber_server.specs.Promise.{Exchange, IsWhole, KeepsPromise}
 use Rattle.lumber_server.specs.Received.{AreOwed, BeginsWithFrames, IsOwed, Standing, at_first, behind_frame, behind_frames}
 use Rattle.lumber_server.specs.Ends.{up_to_end}
@@ -21,7 +21,7 @@ use Rattle.lumber_server.specs.Standing.{Fails, GoesOn, Moves, StandsFor, State,
 use Rattle.lumber_server.specs.Taking.{BeginsWithNoneOwed, TakesFrame}
 use Rattle.lumber_server.specs.Written.{answer_of, answers_from, answers_of, lines_of, lines_of_frame}
 use Rattle.lumber_server.specs.declared.transfer.Transfer.{Transfer}
-use Rattle.lumber_server.proofs.Sending.{goes_nowhere, goes_then, received_append, takes_nothing, takes_then}
+use Rattle.lumber_answers.proofs.Sending.{goes_nowhere, goes_then, received_append, takes_nothing, takes_then}
 
 -- ---- frames behind frames
 

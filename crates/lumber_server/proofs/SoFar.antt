@@ -7,15 +7,15 @@ use Rattle.lumber_frame.specs.Reading.{IsShort}
 use Rattle.lumber_frame.specs.Talk.{in_bytes, out_bytes}
 use Rattle.lumber_frame.proofs.Frames.{within}
 use Rattle.lumber_frame.proofs.Staying.{in_append, out_append}
-use Rattle.lumber_server.specs.Changes.{received_pieces}
-use Rattle.lumber_server.specs.HandingOn.{Told}
+use Rattle.lumber_answers.specs.Changes.{received_pieces}
+use Rattle.lumber_answers.specs.HandingOn.{Told}
 use Rattle.lumber_server.specs.Serving.{Serves, StopsAs, exchange_of}
 use Rattle.lumber_server.specs.Standing.{Moves, StandsFor, State, exchange_then, nothing_exchanged, state_at_first}
 use Rattle.lumber_server.specs.Turning.{EndsAs, IsSettled, TurnsOn}
 use Rattle.lumber_server.specs.declared.served.Served.{Served}
 use Rattle.lumber_server.specs.declared.served.Served.TheVariants.{NoMemory}
 use Rattle.lumber_server.proofs.Moving.{keeps_same, moves_nowhere, moves_then, stands_keeps, stands_same}
-use Rattle.lumber_server.proofs.Sending.{received_append}
+use Rattle.lumber_answers.proofs.Sending.{received_append}
 use Rattle.lumber_server.proofs.Taking.{used_some}
 use Rattle.lumber_server.proofs.Turning.{whole_same}
 

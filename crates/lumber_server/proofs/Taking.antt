@@ -8,8 +8,8 @@ use Rattle.lumber_frame.specs.declared.frame.FrameView.{FrameView}
 use Rattle.lumber_frame.specs.Frame.{BeginsWithFrame, frame_bytes, frame_of}
 use Rattle.lumber_frame.specs.Reading.{IsShort}
 use Rattle.lumber_frame.proofs.Frames.{frame_is_good, frame_once}
-use Rattle.lumber_server.specs.HandingOn.{Told, telling}
-use Rattle.lumber_server.specs.Laying.{WritesFront}
+use Rattle.lumber_answers.specs.HandingOn.{Told, telling}
+use Rattle.lumber_answers.specs.Laying.{WritesFront}
 use Rattle.lumber_server.specs.Next.{IsOwedFrame}
 use Rattle.lumber_server.specs.Received.{IsOwed, Standing, StopsIn}
 use Rattle.lumber_server.specs.Ends.{up_to_end}

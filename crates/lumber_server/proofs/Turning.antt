@@ -5,8 +5,8 @@ use Rattle.outside.specs.Counts.{IsAtEnd, Rose}
 use Rattle.outside.specs.Talks.{Talk}
 use Rattle.wire_base.specs.declared.talk.Piece.TheVariants.{In}
 use Rattle.lumber_frame.specs.Reading.{IsShort}
-use Rattle.lumber_server.specs.Changes.{SinkTakes, TalkGoesOn, received_pieces}
-use Rattle.lumber_server.specs.HandingOn.{Told}
+use Rattle.lumber_answers.specs.Changes.{SinkTakes, TalkGoesOn, received_pieces}
+use Rattle.lumber_answers.specs.HandingOn.{Told}
 use Rattle.lumber_server.specs.Promise.{Exchange, IsWhole}
 use Rattle.lumber_server.specs.Received.{StopsAt}
 use Rattle.lumber_server.specs.Receiving.{IsPieceHeard}
@@ -19,7 +19,7 @@ use Rattle.lumber_server.specs.declared.served.Served.TheVariants.{Ended, SendFa
 use Rattle.lumber_server.specs.declared.session.Session.{Session}
 use Rattle.lumber_server.specs.declared.transfer.Transfer.{Transfer}
 use Rattle.lumber_server.proofs.Moving.{in_then, keeps_same, moves_then, out_then, stands_keeps, stands_same, stands_whole}
-use Rattle.lumber_server.proofs.Sending.{goes_nowhere, takes_nothing}
+use Rattle.lumber_answers.proofs.Sending.{goes_nowhere, takes_nothing}
 use Rattle.lumber_server.proofs.Stopping.{no_stop, stops_at}
 use Rattle.lumber_server.proofs.Taking.{none_at_short, none_at_stop}
 

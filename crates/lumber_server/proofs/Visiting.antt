@@ -8,7 +8,7 @@ use Rattle.outside.specs.Streams.{WritesOn}
 use Rattle.outside.specs.declared.failed.Failed.{Failed}
 use Rattle.outside.specs.Talks.{Talk}
 use Rattle.wire_base.specs.declared.talk.Piece.{Piece}
-use Rattle.lumber_server.specs.Changes.{SinkTakes, TalkGoesOn}
+use Rattle.lumber_answers.specs.Changes.{SinkTakes, TalkGoesOn}
 use Rattle.lumber_server.specs.Ports.{Finished, TellsFinishing}
 use Rattle.lumber_server.specs.Run.{AreEarlierEnded, IsEndCaused, IsOneLinksEnd, IsServedWell, PortFinishes, Receives, RunCall, ServedLink, ServesLinks, questions_for}
 use Rattle.lumber_server.specs.Serving.{ServeCall, Serves}
@@ -17,7 +17,7 @@ use Rattle.lumber_server.specs.Words.{Asked, IsAskedOf}
 use Rattle.lumber_server.specs.declared.served.Served.{Served}
 use Rattle.lumber_server.specs.declared.status.SinkStatus.{SinkStatus}
 use Rattle.lumber_server.specs.declared.status.SinkStatus.TheVariants.{Done, Usage}
-use Rattle.lumber_server.proofs.Sending.{takes_front, takes_none, takes_nothing, takes_then}
+use Rattle.lumber_answers.proofs.Sending.{takes_front, takes_none, takes_nothing, takes_then}
 
 -- a count that rose from none
 pub rose_from_none : (before now : ℕ) → before ≡ 0 → Rose before now → Rose 0 now

@@ -1,10 +1,6 @@
 pub mod AskedWords
-pub mod Changes
 pub mod Codes
 pub mod Ends
-pub mod Faults
-pub mod HandingOn
-pub mod Laying
 pub mod Next
 pub mod Ports
 pub mod Promise

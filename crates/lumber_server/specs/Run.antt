@@ -3,7 +3,7 @@ use Rattle.std.specs.Prelude.{◌≡◌, ℕ, ◌+◌, ◌-◌, ◌≤◌, List,
 use Rattle.std.specs.List.{AllByRecursion, flat_map}
 use Rattle.outside.specs.Counts.{IsAtEnd, Rose}
 use Rattle.lumber_frame.specs.Talk.{in_bytes}
-use Rattle.lumber_server.specs.Changes.{SinkTakes, received_pieces}
+use Rattle.lumber_answers.specs.Changes.{SinkTakes, received_pieces}
 use Rattle.lumber_server.specs.Ports.{Finished}
 use Rattle.lumber_server.specs.Promise.{KeepsPromise}
 use Rattle.lumber_server.specs.Serving.{IsWholeAt, StopsAs, exchange_of}

@@ -4,7 +4,7 @@ use Rattle.outside.specs.Counts.{IsAtEnd}
 use Rattle.outside.specs.Talks.{Talk}
 use Rattle.wire_base.specs.declared.talk.Piece.{Piece}
 use Rattle.lumber_frame.specs.Talk.{in_bytes, out_bytes}
-use Rattle.lumber_server.specs.Changes.{SinkTakes, TalkGoesOn, received_pieces}
+use Rattle.lumber_answers.specs.Changes.{SinkTakes, TalkGoesOn, received_pieces}
 use Rattle.lumber_server.specs.Promise.{Exchange, IsWhole, KeepsPromise}
 use Rattle.lumber_server.specs.Received.{StopsAt}
 use Rattle.lumber_server.specs.declared.served.Served.{Served}

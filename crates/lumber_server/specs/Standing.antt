@@ -5,9 +5,9 @@ use Rattle.wire_base.specs.declared.talk.Piece.{Piece}
 use Rattle.lumber_frame.specs.Talk.{in_bytes, out_bytes}
 use Rattle.lumber_frame.specs.declared.frame.Frame.{Frame}
 use Rattle.lumber_frame.specs.Frame.{frame_bytes}
-use Rattle.lumber_server.specs.Changes.{SinkTakes, TalkGoesOn, received_pieces}
+use Rattle.lumber_answers.specs.Changes.{SinkTakes, TalkGoesOn, received_pieces}
 use Rattle.lumber_server.specs.Ends.{up_to_end}
-use Rattle.lumber_server.specs.HandingOn.{Told}
+use Rattle.lumber_answers.specs.HandingOn.{Told}
 use Rattle.lumber_server.specs.Promise.{Exchange, KeepsPromise}
 use Rattle.lumber_server.specs.Received.{BeginsWithFrames, Standing, at_first, behind_frames}
 use Rattle.lumber_server.specs.Written.{answers_of, lines_of}

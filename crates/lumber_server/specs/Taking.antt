@@ -3,8 +3,8 @@ use Rattle.std.specs.Prelude.{◌≡◌, ℕ, ◌+◌, ◌-◌, ◌<◌, ◌≤�
 use Rattle.lumber_frame.specs.declared.frame.Frame.{Frame}
 use Rattle.lumber_frame.specs.Frame.{BeginsWithFrame}
 use Rattle.lumber_frame.specs.Reading.{IsShort}
-use Rattle.lumber_server.specs.HandingOn.{Told}
-use Rattle.lumber_server.specs.Laying.{WritesSome}
+use Rattle.lumber_answers.specs.HandingOn.{Told}
+use Rattle.lumber_answers.specs.Laying.{WritesSome}
 use Rattle.lumber_server.specs.Received.{IsOwed, Standing, StopsIn, behind_frame}
 use Rattle.lumber_server.specs.Ends.{up_to_end}
 use Rattle.lumber_server.specs.Standing.{GoesOn, state_of}

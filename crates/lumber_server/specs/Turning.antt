@@ -3,8 +3,8 @@ use Rattle.std.specs.Prelude.{◌≡◌, ◌⊎◌, ℕ, ◌+◌, ◌≤◌, suc
 use Rattle.outside.specs.Counts.{IsAtEnd}
 use Rattle.wire_base.specs.declared.talk.Piece.{Piece}
 use Rattle.lumber_frame.specs.Reading.{IsShort}
-use Rattle.lumber_server.specs.Changes.{received_pieces}
-use Rattle.lumber_server.specs.HandingOn.{Told}
+use Rattle.lumber_answers.specs.Changes.{received_pieces}
+use Rattle.lumber_answers.specs.HandingOn.{Told}
 use Rattle.lumber_server.specs.Promise.{Exchange, KeepsPromise}
 use Rattle.lumber_server.specs.Serving.{IsWholeAt, StopsAs}
 use Rattle.lumber_server.specs.Standing.{GoesOn, Moves, StandsFor, State, exchange_then, state_of}

@@ -1,19 +1,12 @@
 -- What is written and what is answered of frames that are received (Lumberjack v2; this project's profile). Each payload is
--- one line: its line feeds are spaces, and a line feed ends it. A frame is acknowledged where its number is a multiple of
--- 64 or the count of its window.
-use Rattle.std.specs.Prelude.{◌==◌, ◌%◌, ◌||◌, ℕ, Bool, List, [], ◌∷◌, ◌++◌, map, if◌then◌else◌}
+-- one line. A frame is acknowledged where its number is a multiple of 64 or the count of its window.
+use Rattle.std.specs.Prelude.{◌==◌, ◌%◌, ◌||◌, ℕ, Bool, List, [], ◌∷◌, ◌++◌, if◌then◌else◌}
 use Rattle.std.specs.List.{flat_map}
 use Rattle.lumber_frame.specs.declared.frame.Frame.{Frame}
 use Rattle.lumber_frame.specs.declared.frame.Frame.TheVariants.{Window, Json, Ack}
 use Rattle.lumber_frame.specs.Frame.{frame_bytes}
+use Rattle.lumber_answers.specs.Lines.{line_of}
 use Rattle.lumber_server.specs.Received.{Standing, at_first, behind_frame}
-
--- 10 is the line feed, and 32 the space
-abbrev pub byte_of_line : ℕ → ℕ
-byte_of_line byte = if byte == 10 then 32 else byte
-
-abbrev pub line_of : List ℕ → List ℕ
-line_of payload = map byte_of_line payload ++ 10 ∷ []
 
 -- the line of a frame; a window frame has none
 abbrev pub lines_of_frame : Frame → List ℕ

@@ -11,12 +11,10 @@
 //! and no socket is touched here: `Port` is where peers come from, and `MemPort` meets it in memory and tells all.
 #![tactic(auto)]
 
-mod fault;
 mod incoming;
 mod laws;
 mod mem_link;
 mod mem_port;
-mod outgoing;
 mod places;
 mod port;
 mod reading;
@@ -25,7 +23,6 @@ mod served;
 mod serving;
 mod session;
 mod status;
-mod streams;
 mod transfer;
 mod visit_chain;
 mod visit_history;

@@ -1,13 +1,13 @@
 ghost use Rattle.std.specs.Prelude.{◌≡◌, ◌≢◌, ◌≤◌, Some, IfOk};
 ghost use Rattle.outside.specs.Counts.{Rose};
-ghost use Rattle.lumber_server.specs.HandingOn.{telling};
+ghost use Rattle.lumber_answers.specs.HandingOn.{telling};
 ghost use Rattle.lumber_server.specs.Standing.{state_at_first};
 ghost use Rattle.lumber_server.specs.Turning.{IsHandedOver, IsSettled, IsTurned, session_state};
 
-use crate::fault::Fault;
 use crate::incoming::Incoming;
 use crate::served::Served;
 use crate::transfer::{Taken, Transfer};
+use lumber_answers::Fault;
 use outside::{Link, Recv, Sink};
 use std::alloc::Global;
 use wire_base::NoMemory;

@@ -1,16 +1,15 @@
 ghost use Rattle.std.specs.Prelude.{◌≡◌, ◌≤◌, ◌++◌, ℕ, List, [], IfOk, IsErrOf, OnErr, OnOk};
 ghost use Rattle.outside.specs.Counts.{Rose};
 ghost use Rattle.lumber_frame.specs.Frame.{frame_of};
-ghost use Rattle.lumber_server.specs.HandingOn.{telling};
-ghost use Rattle.lumber_server.specs.Laying.{WritesFront};
+ghost use Rattle.lumber_answers.specs.HandingOn.{telling};
+ghost use Rattle.lumber_answers.specs.Laying.{WritesFront};
 ghost use Rattle.lumber_server.specs.Received.{IsOwed};
 ghost use Rattle.lumber_server.specs.Standing.{Fails, GoesOn, state_at_first, state_of};
 ghost use Rattle.lumber_server.specs.Taking.{IsTakenIn, IsTakenNext, TakesFrame, TakesFrames};
 ghost use Rattle.lumber_server.specs.Written.{lines_of_frame};
 
-use crate::fault::{Fault, WriteFault};
-use crate::outgoing::Outgoing;
 use crate::reading::{Next, Reading};
+use lumber_answers::{Fault, Outgoing, WriteFault};
 use lumber_frame::FrameView;
 use outside::{Link, Sink};
 use std::alloc::Global;

@@ -16,7 +16,8 @@ use Rattle.outside.specs.declared.link.Recv.TheVariants.{Got, NotYet, Closed, Fa
 use Rattle.wire_base.specs.declared.parcel.Parcel.{Parcel}
 use Rattle.wire_base.specs.declared.talk.Piece.{Piece}
 use Rattle.wire_base.specs.declared.talk.Piece.TheVariants.{In, Out}
-use Rattle.spool_queue.specs.SendSoFar.{GoesOut, HasPieces, HearsFault, Hears, TalkAcknowledges, settled_in, with_bytes}
+use Rattle.settled_parcels.specs.Handing.{settled_in}
+use Rattle.spool_queue.specs.SendSoFar.{GoesOut, HasPieces, HearsFault, Hears, TalkAcknowledges, with_bytes}
 
 -- ---- pieces of a talk
 

@@ -12,11 +12,12 @@ use Rattle.outside.specs.declared.link.Recv.TheVariants.{Got, NotYet}
 use Rattle.wire_base.specs.declared.parcel.Parcel.{Parcel}
 use Rattle.wire_base.specs.declared.talk.Piece.{Piece}
 use Rattle.wire_base.specs.declared.talk.Piece.TheVariants.{In}
+use Rattle.settled_parcels.specs.Handing.{settled_in, with_all_handed}
 use Rattle.spool_queue.specs.declared.spool.Spool.{Spool}
 use Rattle.spool_queue.specs.declared.spool_error.SpoolError.TheVariants.{DiskFault}
 use Rattle.spool_queue.specs.declared.stop.Stop.{Stop}
 use Rattle.spool_queue.specs.declared.stop.Stop.TheVariants as stop
-use Rattle.spool_queue.specs.SendSoFar.{HasPieces, Hears, Settles, SettlesSome, SettlesWindow, Talks, settled_in, with_all_handed, with_bytes}
+use Rattle.spool_queue.specs.SendSoFar.{HasPieces, Hears, Settles, SettlesSome, SettlesWindow, Talks, with_bytes}
 use Rattle.spool_queue.specs.Standing.{KeepsPlaces}
 use Rattle.spool_queue.proofs.Settlings.{settles_both, stay, stay_both, takes_both}
 use Rattle.spool_queue.proofs.Talkings.{all_handed, heard_acknowledges, heard_fault, pieces_acknowledge, receives_nothing, receives_piece, with_some}

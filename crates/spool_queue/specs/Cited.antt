@@ -9,7 +9,7 @@ pub use Rattle.spool_queue.specs.PutSoFar.{PutsAll, PutsLines, StopsIn}
 pub use Rattle.spool_queue.specs.Putting.{IsPutBehind, IsPutStatus, LeavesTheDisk, Puts, put_call}
 pub use Rattle.spool_queue.specs.Records.{Event, head_bytes}
 pub use Rattle.spool_queue.specs.Running.{RunsOn, others_of}
-pub use Rattle.spool_queue.specs.SendSoFar.{GoesOut, HasPieces, ClockGoesOn, HasTalkFault, Hears, IsFilledWith, IsReadStop, IsSilentOver, IsSendingStop, IsSettlingStop, SendsAll, SendsOver, Settles, SettlesSome, SettlesWindow, Talks, settled_in, with_all_handed}
+pub use Rattle.spool_queue.specs.SendSoFar.{GoesOut, HasPieces, ClockGoesOn, HasTalkFault, Hears, IsFilledWith, IsReadStop, IsSilentOver, IsSendingStop, IsSettlingStop, SendsAll, SendsOver, Settles, SettlesSome, SettlesWindow, Talks}
 pub use Rattle.spool_queue.specs.Sending.{IsAwaited, IsIdle}
 pub use Rattle.spool_queue.specs.Sent.{AreAcknowledged, IsLeftOf, IsSendStatus, PeerFails, PeerIsSilent, Sends, send_call}
 pub use Rattle.spool_queue.specs.Spool.{BreaksAt, EndsAt, IsBad, IsLastGate, IsReadAs, Reaches}

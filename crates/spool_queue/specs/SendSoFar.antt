@@ -10,7 +10,7 @@ use Rattle.outside.specs.DiskImages.{LeavesOnly, Only}
 use Rattle.outside.specs.Talks.{Talk}
 use Rattle.outside.specs.Wires.{Outcome}
 use Rattle.outside.specs.declared.disk.Disk.{Ghosts as DiskGhosts}
-use Rattle.wire_base.specs.declared.parcel.Parcel.{Parcel}
+use Rattle.settled_parcels.specs.Handing.{with_all_handed}
 use Rattle.wire_base.specs.declared.talk.Piece.{Piece}
 use Rattle.wire_base.specs.declared.talk.Piece.TheVariants.{In}
 use Rattle.spool_queue.specs.declared.spool.Spool.{Spool}
@@ -55,10 +55,6 @@ pub record Talks (window : Held) (began told : Option Talk) (e : Exchange) : Typ
   pub pieces : HasPieces began told e.talk
   pub first : e.earlier ≡ []
 
--- these were handed out, too
-abbrev pub with_all_handed : Exchange → List Parcel → Exchange
-with_all_handed e parcels = record { talk = e.talk; begun = e.begun; earlier = e.earlier; handed = e.handed ++ parcels }
-
 -- the talk with these bytes as one piece
 abbrev pub with_bytes : List Piece → List ℕ → List Piece
 with_bytes talk [] = talk
@@ -84,10 +80,6 @@ TalkAcknowledges (Some began) None payloads = ⊥
 TalkAcknowledges (Some began) (Some talk) payloads = Acknowledges talk.pieces payloads
 
 -- ---- a window
-
--- the parcels of a window that were acknowledged and are to be handed out
-abbrev pub settled_in : Held → List Parcel
-settled_in window = take window.acknowledged window.parcels
 
 -- the talk went on, and the same was handed out
 pub record GoesOut (window : Held) (began told : Option Talk) (e : Exchange) : Type 0 where

@@ -1,7 +1,6 @@
 ghost use Rattle.std.specs.Prelude.{◌≡◌, ◌≤◌, ◌↔◌, All, IsTrue, length};
 ghost use Rattle.std.specs.Char.{IsAsciiDigit};
 ghost use Rattle.std.specs.Option.{SomeIff};
-ghost use Rattle.spool_queue.specs.Records.{padded};
 ghost use Rattle.spool_queue.specs.Walking.{IsHeadOf};
 ghost use Rattle.std.specs.Str.Parse.{digits_value};
 

@@ -5,7 +5,8 @@ ghost use Rattle.lumber_client.specs.Newly.{KeepsParcels};
 ghost use Rattle.lumber_client.specs.Standing.{StandsFor};
 ghost use Rattle.outside.specs.Counts.{Rose};
 ghost use Rattle.outside.specs.Talks.{Talk};
-ghost use Rattle.spool_queue.specs.Cited.{ClockGoesOn, GoesOut, HasPieces, HasTalkFault, Hears, IsAwaited, IsClosed, IsFilledWith, IsIdle, IsLost, IsOnlyRead, IsReadStop, IsSendingStop, IsSettlingStop, IsSilentOver, IsSpoolOf, IsWalkOf, HoldsList, KeepsPlaces, Log, PeerFails, PeerIsSilent, SendsAll, SendsOver, Settles, SettlesSome, SettlesWindow, Talks, count_of, link_counts, settled_in, with_all_handed};
+ghost use Rattle.settled_parcels.specs.Handing.{settled_in, with_all_handed};
+ghost use Rattle.spool_queue.specs.Cited.{ClockGoesOn, GoesOut, HasPieces, HasTalkFault, Hears, IsAwaited, IsClosed, IsFilledWith, IsIdle, IsLost, IsOnlyRead, IsReadStop, IsSendingStop, IsSettlingStop, IsSilentOver, IsSpoolOf, IsWalkOf, HoldsList, KeepsPlaces, Log, PeerFails, PeerIsSilent, SendsAll, SendsOver, Settles, SettlesSome, SettlesWindow, Talks, count_of, link_counts};
 ghost use Rattle.wire_base.specs.Ranges.{IsParcel};
 
 use crate::stop::Stop;
@@ -14,6 +15,7 @@ use crate::words::Target;
 use crate::{Spool, SpoolError, TIMEOUT_MS};
 use lumber_client::{Heard, Window};
 use outside::{Clock, Disk, Link, Recv, Wire};
+use settled_parcels::hand_out_settled;
 use std::alloc::Global;
 use std::sync::Wait;
 use wire_base::{Blob, Epoch, Moment, Parcel, Slot, Span};
@@ -313,10 +315,7 @@ fn settle<D: Disk>(spool: &mut Spool, disk: &mut D, window: &mut Window) -> Resu
     ensures most { window.new.most ≡ window.old.most }
     ensures depth { window.new.depth ≡ window.old.depth }
 {
-    let mut count = 0;
-    'parcels: while let Some(_) = window.settled() {
-        count += 1;
-    }
+    let count = hand_out_settled(window);
     if count > 0 {
         spool.settle(disk, count)?;
     }

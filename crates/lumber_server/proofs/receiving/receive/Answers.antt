@@ -1,6 +1,6 @@
 use Rattle.std.proofs.Common.{Some, arith, ap, rules, ◌∙◌}
 use Rattle.lumber_server.specs.AskedWords.{asked_value}
-use Rattle.lumber_server.proofs.Sending.{takes_nothing}
+use Rattle.lumber_answers.proofs.Sending.{takes_nothing}
 use Rattle.lumber_server.proofs.Visiting.{none_served, nothing_taken, one_more_served, rose_from, run_ends, run_is_done, run_without}
 use Rattle.lumber_server.proofs.receiving.receive.Goals as goal
 

@@ -1,5 +1,5 @@
 use Rattle.std.proofs.Common.{◌≤◌}
-use Rattle.lumber_server.specs.HandingOn.{telling}
+use Rattle.lumber_answers.specs.HandingOn.{telling}
 use Rattle.lumber_server.specs.Turning.{session_state}
 use Rattle.lumber_server.proofs.SoFar.{ServedSoFar}
 use Rattle.lumber_server.proofs.serving.serve.Given as goal

@@ -1,5 +1,5 @@
 use Rattle.std.proofs.lemmas.Result.{err_from_is_err_and}
-use Rattle.lumber_server.proofs.Laying.{front_of_some}
+use Rattle.lumber_answers.proofs.Laying.{front_of_some}
 use Rattle.lumber_server.proofs.transfer.Transfer.take_frame.Goals as goal
 
 pub returns-in_err-lay_answer-clause-front : goal.returns-in_err-lay_answer-clause-front

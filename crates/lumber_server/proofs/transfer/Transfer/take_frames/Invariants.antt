@@ -1,5 +1,5 @@
 use Rattle.std.proofs.Common.{◌≡◌, ◌≤◌, length}
-use Rattle.lumber_server.specs.HandingOn.{telling}
+use Rattle.lumber_answers.specs.HandingOn.{telling}
 use Rattle.lumber_server.specs.Standing.{GoesOn, state_of}
 use Rattle.lumber_server.proofs.Taking.{IsLeftOf}
 use Rattle.lumber_server.proofs.transfer.Transfer.take_frames.Given as goal

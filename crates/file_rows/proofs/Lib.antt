@@ -1,0 +1,2 @@
+pub mod ListedKeys
+mod Spelled

@@ -1,0 +1,5 @@
+pub mod Changes
+pub mod Faults
+pub mod HandingOn
+pub mod Laying
+pub mod Lines

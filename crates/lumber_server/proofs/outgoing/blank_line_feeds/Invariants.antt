@@ -1,5 +1,0 @@
-use Rattle.lumber_server.proofs.Laying.{IsBlankedTo}
-use Rattle.lumber_server.proofs.outgoing.blank_line_feeds.Given as goal
-
-abbrev pub invariant-loop-byte : goal.invariant-loop-byte
-invariant-loop-byte l = IsBlankedTo l.initial.bytes l.bytes l.byte-index
