@@ -1,6 +1,0 @@
-mod calls;
-mod changes;
-mod lines;
-mod rules;
-mod tail;
-mod told;

@@ -1,6 +1,0 @@
-use Rattle.lanes.specs.Laning.{laning}
-use Rattle.lanes_table.specs.Ready.{IsReady}
-use Rattle.lanes_table.proofs.tests.rounds.admit_all.Given as goal
-
-abbrev pub invariant-files : goal.invariant-files
-invariant-files g l = IsReady g.T.Tail.numbers g.T.Tail.told l.rig.queue.id l.rig.desk.id (laning l.lane)

@@ -1,4 +1,0 @@
-use Rattle.lanes_table.proofs.tests.rounds.rounds.Goals as goal
-
-pub run-requires : goal.run-requires
-run-requires g c = rw (c.rounds.invariant.queue, c.rounds.invariant.desk) c.rounds.invariant.ready

@@ -1,5 +1,0 @@
-mod calls;
-mod files;
-mod rig;
-mod rounds;
-mod tail;

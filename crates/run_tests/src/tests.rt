@@ -1,0 +1,4 @@
+mod harvesters;
+mod one_lane;
+mod threads;
+mod workers;

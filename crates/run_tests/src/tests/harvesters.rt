@@ -1,0 +1,5 @@
+mod calls;
+mod changes;
+pub mod rules;
+pub mod tail;
+mod told;

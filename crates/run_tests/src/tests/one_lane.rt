@@ -1,0 +1,4 @@
+mod calls;
+mod files;
+mod rig;
+mod rounds;

@@ -1,0 +1,6 @@
+mod loopback;
+mod peers;
+mod rig;
+mod rows;
+mod scripts;
+mod talks;

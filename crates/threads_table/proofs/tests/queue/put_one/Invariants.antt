@@ -1,6 +1,0 @@
-use Rattle.std.proofs.Common.{◌≡◌, IfSome}
-use Rattle.wire_base.specs.Ranges.{IsParcel}
-use Rattle.threads_table.proofs.tests.queue.put_one.Given as goal
-
-abbrev pub invariant-loop : goal.invariant-loop
-invariant-loop g l = (l.pass.queue ≡ l.fn.pass.queue) × (l.pass.share ≡ l.fn.pass.share) × IfSome l.waiting (λ parcel. IsParcel parcel)

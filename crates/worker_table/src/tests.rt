@@ -1,8 +1,0 @@
-mod counting;
-mod loopback;
-mod peers;
-mod rests;
-mod rig;
-mod rows;
-mod scripts;
-mod talks;
