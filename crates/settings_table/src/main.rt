@@ -95,6 +95,3 @@ fn main(rt: HostRuntime) -> anyhow::Result<()> {
     }
     Ok(())
 }
-
-#[cfg(test)]
-mod tests;

@@ -218,16 +218,29 @@ fn knows(prospector: &Prospector, slot: Slot, key: &str, place: Option<(&str, u6
     }
 }
 
+/// A slot, a key, and the path and the size of its file, if there is one.
+type Place = (u32, &'static str, Option<(&'static str, u64)>);
+
+const FOUND: [Place; 3] = [
+    (0, "c", Some(("/c", 1))),
+    (1, "x", Some(("/x", 1))),
+    (2, "d", None),
+];
+
+/// Once the first is gone.
+const LEFT: [Place; 2] = [(0, "c", None), (1, "x", Some(("/x", 1)))];
+
+fn knows_all(prospector: &Prospector, places: &[Place]) -> bool {
+    places.iter().all(|(slot, key, place)| knows(prospector, Slot(*slot), key, *place))
+}
+
 #[test]
 fn found_by_slot_and_by_key(rt: HostRuntime) -> Result<(), Fail> {
     let mut prospector = Prospector::begin(rt.alloc(), &[], 0)?;
     assert!(rt; tells(rt.alloc(), &mut prospector, &FORGOTTEN[0])?);
-    assert!(rt; knows(&prospector, Slot(0), "c", Some(("/c", 1))));
-    assert!(rt; knows(&prospector, Slot(1), "x", Some(("/x", 1))));
-    assert!(rt; knows(&prospector, Slot(2), "d", None));
+    assert!(rt; knows_all(&prospector, &FOUND));
     prospector.gone(Slot(0));
-    assert!(rt; knows(&prospector, Slot(0), "c", None));
-    assert!(rt; knows(&prospector, Slot(1), "x", Some(("/x", 1))));
+    assert!(rt; knows_all(&prospector, &LEFT));
     Ok(())
 }
 

@@ -116,8 +116,8 @@ pub const LETTERS_KEY: &str =
 
 #[test]
 fn fingerprint_key(rt: HostRuntime) -> Result<(), Fail> {
-    for most in [16_384, 1] {
-        let found = letters(rt.alloc(), 112, most)?;
+    for most in &[16_384, 1] {
+        let found = letters(rt.alloc(), 112, *most)?;
         assert!(rt; key_of(&found) == LETTERS_KEY, "{most} bytes a read");
     }
     let found = letters(rt.alloc(), 111, 7)?;
@@ -157,12 +157,12 @@ const DIGESTS: [(u8, u32, &str); 5] = [
 
 #[test]
 fn digests_of_longer_messages(rt: HostRuntime) -> Result<(), Fail> {
-    for (byte, count, digest) in DIGESTS {
-        assert!(rt; 0 < count);
-        let bytes = vec![in rt.alloc(); byte; count as usize]?;
-        let found = printed(rt.alloc(), bytes, 16_384, count)?;
+    for (byte, count, digest) in &DIGESTS {
+        assert!(rt; 0 < *count);
+        let bytes = vec![in rt.alloc(); *byte; *count as usize]?;
+        let found = printed(rt.alloc(), bytes, 16_384, *count)?;
         let found = key_of(&found).strip_prefix("filestream::w::fingerprint::");
-        assert!(rt; found == Some(digest), "{count} times {byte}");
+        assert!(rt; found == Some(*digest), "{count} times {byte}");
     }
     Ok(())
 }

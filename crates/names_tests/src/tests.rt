@@ -4,4 +4,5 @@ mod identities;
 mod parts;
 mod reports;
 mod scans;
+mod settings;
 mod usage;

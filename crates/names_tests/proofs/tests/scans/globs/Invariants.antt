@@ -1,5 +1,5 @@
 use Rattle.prospect.specs.Members.{AreGlobs}
-use Rattle.names_table.proofs.tests.scans.globs.Given as goal
+use Rattle.names_tests.proofs.tests.scans.globs.Given as goal
 
 abbrev pub invariant-loop-chars : goal.invariant-loop-chars
 invariant-loop-chars l = AreGlobs l.globs.items
