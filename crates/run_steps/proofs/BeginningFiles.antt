@@ -94,7 +94,7 @@ module _ {T W L D : Type 0} (words : Words T W L D) (reads : (disk : D) → IfSo
 
   module _ (slot : ℕ) (listed : Listed) (to : IsToBegin slot listed) (old : Beginning T W L) (begins : BeginsBelow slot old) where
     -- nothing but what the folder tells has changed
-    with_shown : (later : Option FolderHistory) → HasShown start.shown later (files_of begins.so_far) → Begins words start moments a b now later old.crew old.keeper slot
+    with_shown : (later : Option FolderHistory) → HasShown start.settings start.shown later (files_of begins.so_far) → Begins words start moments a b now later old.crew old.keeper slot
     with_shown later has = record {
       so_far = begins.so_far;
       stands = stands_at words start moments a b old.folder.told later old.crew old.keeper Reading begins.so_far (λ is. let no : Reading ≡ Finished = is in cc) tt has begins.stands;
@@ -114,15 +114,15 @@ module _ {T W L D : Type 0} (words : Words T W L D) (reads : (disk : D) → IfSo
 
     pub none_opened : (new : Beginning T W L) → OpensNone words.tails (file_at start.opening slot listed now) (Ok None) old new → BeginsBelow (suc slot) new
     none_opened new none = later_slot new slot (moved new slot none.crew none.keeper (with_shown new.folder.told
-        (none_shown begins.so_far listed.path words.tails old.folder.states old.folder.present start.shown old.folder.told new.folder.told begins.stands.files.shown none.opens.told)))
+        (none_shown start.settings begins.so_far listed.path words.tails old.folder.states old.folder.present start.shown old.folder.told new.folder.told begins.stands.files.shown none.opens.told)))
 
     pub failed_opening : (new : Beginning T W L) → OpensNone words.tails (file_at start.opening slot listed now) (Err Failing) old new → BeginsBelow (suc slot) new
     failed_opening new none = later_slot new slot (moved new slot none.crew none.keeper (with_shown new.folder.told
-        (error_shown begins.so_far listed.path words.tails old.folder.states old.folder.present Failing start.shown old.folder.told new.folder.told begins.stands.files.shown none.opens.told)))
+        (error_shown start.settings begins.so_far listed.path words.tails old.folder.states old.folder.present Failing start.shown old.folder.told new.folder.told begins.stands.files.shown none.opens.told)))
 
     pub without_memory : (new : Beginning T W L) → OpensNone words.tails (file_at start.opening slot listed now) (Err WithoutMemory) old new → Leaves new
     without_memory new none = leaves new slot (moved new slot none.crew none.keeper (with_shown new.folder.told
-        (error_shown begins.so_far listed.path words.tails old.folder.states old.folder.present WithoutMemory start.shown old.folder.told new.folder.told begins.stands.files.shown none.opens.told)))
+        (error_shown start.settings begins.so_far listed.path words.tails old.folder.states old.folder.present WithoutMemory start.shown old.folder.told new.folder.told begins.stands.files.shown none.opens.told)))
 
     -- ---- one was opened
 
@@ -169,7 +169,7 @@ module _ {T W L D : Type 0} (words : Words T W L D) (reads : (disk : D) → IfSo
           -- its asking gave the key
           found_key : IsSome start.shown → GivesKey to.rule key listed.path has.one.file has.one.asked
           found_key some =
-              let tells = shown_tells begins.so_far has.one (words.tails.told tail) start.shown old.folder.told mid begins.stands.files.shown has.shown some in
+              let tells = shown_tells start.settings begins.so_far has.one (words.tails.told tail) start.shown old.folder.told mid begins.stands.files.shown has.shown some in
               let gave = of_told (words.tails.told tail) tells has.gave in
               subst (λ (r : InputRule). GivesKey r key listed.path has.one.file has.one.asked) (same_rule found.asks.rule to.rule (sym found.asks.rule_is ∙ to.rule_is))
               (record { asking = gave.0; gave = gave.1 ∙ ap Some (same_key found.key key (sym found.listed ∙ key_is)) })
@@ -179,9 +179,9 @@ module _ {T W L D : Type 0} (words : Words T W L D) (reads : (disk : D) → IfSo
 
       -- a harvester over it stands for it
       turns : (harvester : Harvester T) → IsOpenedFor words.tails start.settings (file_at start.opening slot listed now) tail harvester →
-          IsTurnedSo words.tails.numbers words.tails.told (watch_of start) (begins.so_far.opened ++ has.one ∷ []) begins.so_far.moments (opened_now start.settings.processors has.one now.0) harvester
+          IsTurnedSo words.tails.numbers words.tails.told (watch_of start begins.so_far.scans) (begins.so_far.opened ++ has.one ∷ []) begins.so_far.moments (opened_now start.settings.processors has.one now.0) harvester
       turns harvester is =
-          stands_opened words.tails.numbers words.tails.told (watch_of start) (begins.so_far.opened ++ has.one ∷ []) begins.so_far.moments has.one now.0 harvester
+          stands_opened words.tails.numbers words.tails.told (watch_of start begins.so_far.scans) (begins.so_far.opened ++ has.one ∷ []) begins.so_far.moments has.one now.0 harvester
           (Contains-append_right begins.so_far.opened (has.one ∷ []) has.one (first_there has.one [])) begins.ends told_so
           (subst (λ (t : T). IfSome (words.tails.told t) (IsTailOf has.one)) (sym is.tail_kept) has.tail_is)
           (subst (λ (t : T). IfSome (words.tails.told t) TellsLooks) (sym is.tail_kept) has.tells)
@@ -245,10 +245,10 @@ module _ {T W L D : Type 0} (words : Words T W L D) (reads : (disk : D) → IfSo
 
       -- what the folder shows once it was closed again
       shown_closed : (mid later : Option FolderHistory) → TellsOpening words.tails.told words.tails.numbers old.folder.told old.folder.states old.folder.present listed.path (Ok (Some fresh)) mid →
-          later ≡ with_events (closing_of (words.tails.told tail) (words.tails.faults tail)) mid → HasShown start.shown later (files_of begins.so_far)
+          later ≡ with_events (closing_of (words.tails.told tail) (words.tails.faults tail)) mid → HasShown start.settings start.shown later (files_of begins.so_far)
       shown_closed mid later opens closes =
           let of = opened_some mid opens in
-          unread_shown begins.so_far of.one (words.tails.told tail) of.reads (words.tails.faults tail) start.shown old.folder.told mid later begins.stands.files.shown of.shown closes
+          unread_shown start.settings begins.so_far of.one (words.tails.told tail) of.reads (words.tails.faults tail) start.shown old.folder.told mid later begins.stands.files.shown of.shown closes
 
     -- it was closed again, and the keeper was told nothing
     pub closed_again : (Why : T → T → Type 0) (new : Beginning T W L) → ClosesFile words.tails start.settings (file_at start.opening slot listed now) Why old new → BeginsBelow slot new

@@ -84,7 +84,7 @@ module _ {T W L D : Type 0} (words : Words T W L D) (start : Began D) (moments :
   at_phase shown crew keeper phase = record { shown = shown; moments = moments; crew = crew; keeper = keeper; a = a; b = b; phase = phase }
 
   -- what was done with the folder, and whether files are read on
-  pub stands_at : (shown later : Option FolderHistory) (crew : Crew T W L) (keeper : Keeping) (phase : Phase) (so_far : SoFar) → phase ≢ Finished → HaveOneOver phase (files_in so_far) → HasShown start.shown later (files_of so_far) →
+  pub stands_at : (shown later : Option FolderHistory) (crew : Crew T W L) (keeper : Keeping) (phase : Phase) (so_far : SoFar) → phase ≢ Finished → HaveOneOver phase (files_in so_far) → HasShown start.settings start.shown later (files_of so_far) →
       Stands words start (at_phase shown crew keeper Reading) so_far → Stands words start (at_phase later crew keeper phase) so_far
   stands_at shown later crew keeper phase so_far not_finished over has stands = record {
     files = record {
@@ -99,6 +99,7 @@ module _ {T W L D : Type 0} (words : Words T W L D) (start : Began D) (moments :
       read = λ yet some. record { in_lanes = (stands.files.read tt some).in_lanes; in_left = none_left_read later so_far.left (stands.files.reading refl).none_left };
       tell = stands.files.tell;
       left_tell = stands.files.left_tell;
+      scans = stands.files.scans;
       shown = has;
       given = stands.files.given;
     };

@@ -31,7 +31,7 @@ use Rattle.told_scans.proofs.FirstPaths.{apart, none_before}
 use Rattle.told_scans.specs.ToldScan.{IsAround, IsTold, RunAround, ToldScan}
 use Rattle.run_steps.proofs.OneScan.{around_one, is_around, told_so}
 
-module _ {D : Type 0} (start : Began D) (folder : FolderTold) (has : HasScanned start folder) (so_far : SoFar) (done : HasDone folder.scanned folder.ended (files_of so_far))
+module _ {D : Type 0} (start : Began D) (folder : FolderTold) (has : HasScanned start folder) (so_far : SoFar) (done : HasDone start.settings folder.scanned folder.ended (files_of so_far))
     (wires : List WireTold) where
   abbrev run : Run
   run = run_of start folder so_far.moments wires

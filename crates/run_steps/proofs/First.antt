@@ -163,6 +163,7 @@ module _ {T W L D : Type 0} (words : Words T W L D) (start : Began D) (crew : Cr
     abbrev pub so_far : SoFar
     so_far = record {
       moments = given.since;
+      scans = [];
       opened = [];
       hidden = [];
       lanes = none_in (lanings crew.lanes.items);
@@ -241,16 +242,16 @@ module _ {T W L D : Type 0} (words : Words T W L D) (start : Began D) (crew : Cr
       collected = ap (λ (got : List Sent). min (length got) (2 ^ 64 - 1)) (sym made.none_got);
     }
 
-    has_shown : HasShown start.shown start.shown (files_of so_far)
+    has_shown : HasShown start.settings start.shown start.shown (files_of so_far)
     has_shown = by_case start.shown
       where
-        by_case : (o : Option FolderHistory) → HasShown o o (files_of so_far)
+        by_case : (o : Option FolderHistory) → HasShown start.settings o o (files_of so_far)
         by_case None = refl
         by_case (Some told) = record {
           files = refl;
           more = [];
           events = sym (append-nil told.events);
-          no_listing = tt;
+          scans = record { files = refl; more = []; events = sym (append-nil told.events); no_listing = tt };
           opened = tt;
           apart = tt;
           serve = λ opening path number begun since is. absurd (let within = got_within told.events opening (Opened path number begun) is in omega (arith, since, within));
@@ -264,7 +265,7 @@ module _ {T W L D : Type 0} (words : Words T W L D) (start : Began D) (crew : Cr
         opened = tt;
         keyed = λ some. tt;
         each_once = record { rise = tt; are = subst (λ (l : List Turned). AsOften (map (λ (t : Turned). t.slot) l) []) (sym no_files) (λ h. refl) };
-        turned = turned_none words.tails (watch_of start) [] given.since (lanings crew.lanes.items) none;
+        turned = turned_none words.tails (watch_of start []) [] given.since (lanings crew.lanes.items) none;
         left = tt;
         reading = λ is. record { none_left = refl; none_over = each_of_none (λ (h : Harvester T). h.reader.stage ≢ stage.Over) (lanings crew.lanes.items) none };
         finished = λ is some. absurd (let no : Reading ≡ Finished = is in cc);
@@ -275,6 +276,7 @@ module _ {T W L D : Type 0} (words : Words T W L D) (start : Began D) (crew : Cr
         };
         tell = λ some. each_of_none (λ (h : Harvester T). IsSome (words.tails.told h.tail)) (lanings crew.lanes.items) none;
         left_tell = λ some. tt;
+        scans = record { none_with_once = λ once. refl; timed = given.given.among; known = λ some. tt };
         shown = has_shown;
         given = given.given;
       };

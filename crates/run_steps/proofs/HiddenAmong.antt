@@ -8,8 +8,11 @@ use Rattle.std.specs.declared.cmp.Ordering.TheVariants.{Equal, Less}
 use Rattle.accounts.proofs.Begins.{begin_begins}
 use Rattle.accounts.proofs.Grounded.{each_member, of_map}
 use Rattle.accounts.proofs.Ordered.{HasSlotBelow, below_more, below_then, none_of_slot, one_more_orderly}
+use Rattle.accounts.proofs.HiddenFollowed.{begins_unlisted}
+use Rattle.kept_rows.specs.Followed.{start_unlisted}
 use Rattle.accounts.specs.Hidden.{AreHiddenFrom, Hidden, MayAllGo, MayGo, hidden_begin, hidden_forget, hidden_key}
 use Rattle.event_tree.specs.declared.input_rule.InputRule.{InputRule}
+use Rattle.file_rows.specs.Removed.{IsRemoved}
 use Rattle.kept_rows.proofs.Images.{found_by_its_key}
 use Rattle.kept_rows.specs.Run.{Run, Scan}
 use Rattle.kept_rows.specs.Scans.{AreDistinct, IsWhole, ShowsKey}
@@ -22,7 +25,6 @@ use Rattle.wire_base.specs.KeyOrder.{compare}
 use Rattle.wire_base.specs.declared.note.Note.{Note}
 use Rattle.wire_base.specs.declared.row.Row.{Row}
 use Rattle.run_steps.specs.HiddenRows.{AreHiddenAmong, AreHiddenSoFar, hidden_as, hidden_notes}
-use Rattle.run_steps.specs.Removed.{IsRemoved}
 
 -- ---- the first rows
 
@@ -60,11 +62,12 @@ module _ (inputs : List InputRule) (listed : List Listed) where
     pub among : Contains rows hidden.row
     pub removed : IsRemoved inputs listed (hidden_key hidden)
     pub input_is : removed.cleaned.0 ≡ hidden.input
-    -- it goes by the first scan
+    -- it begins where it stood, and goes by the first scan
+    pub starts : hidden.start ≡ start_unlisted hidden.row
     pub first : hidden.hidden_by ≡ 0
 
   later_hidden : (row : Row) (rows : List Row) (hidden : Hidden) → IsHiddenOf rows hidden → IsHiddenOf (row ∷ rows) hidden
-  later_hidden row rows hidden of = record { among = later_there row hidden.row rows of.among; removed = of.removed; input_is = of.input_is; first = of.first }
+  later_hidden row rows hidden of = record { among = later_there row hidden.row rows of.among; removed = of.removed; input_is = of.input_is; starts = of.starts; first = of.first }
 
   pub each_is_hidden_of : (slot : ℕ) (rows : List Row) (hiddens : List Hidden) (hidden : Hidden) → AreHiddenAmong inputs listed slot rows hiddens → Contains hiddens hidden → IsHiddenOf rows hidden
   each_is_hidden_of slot [] hiddens hidden are there = absurd (none_there hidden (subst (λ (l : List Hidden). Contains l hidden) are there))
@@ -73,7 +76,7 @@ module _ (inputs : List InputRule) (listed : List Listed) where
       by_place (there_cases (hidden_as inputs slot row goes.removed.cleaned) hidden goes.later (subst (λ (l : List Hidden). Contains l hidden) goes.are there)) (each_is_hidden_of (suc slot) rows goes.later hidden goes.rest)
     where
       by_place : (hidden_as inputs slot row goes.removed.cleaned ≡ hidden) ⊎ Contains goes.later hidden → (Contains goes.later hidden → IsHiddenOf rows hidden) → IsHiddenOf (row ∷ rows) hidden
-      by_place (inl same) later = subst (IsHiddenOf (row ∷ rows)) same (record { among = first_there row rows; removed = goes.removed; input_is = refl; first = refl })
+      by_place (inl same) later = subst (IsHiddenOf (row ∷ rows)) same (record { among = first_there row rows; removed = goes.removed; input_is = refl; starts = refl; first = refl })
       by_place (inr behind) later = later_hidden row rows hidden (later behind)
 
   -- one that is removed is among them
@@ -156,11 +159,12 @@ module _ (run : Run) (scan : Scan) (listed : List Listed) (hiddens : List Hidden
         cleans = cleaned.4.0;
         key_of_input = cleaned.4.1;
         found = found_by_its_key run.opening hidden.row so_far.ordered (take_there so_far.count run.opening hidden.row of.among);
+        begun = begins_unlisted run hidden scan (found_by_its_key run.opening hidden.row so_far.ordered (take_there so_far.count run.opening hidden.row of.among)) of.starts
+            (ap (λ (l : List Scan). slice_get l 0) only) (not_shown (hidden_key hidden) of.removed);
         scan = scan;
         scan_is = ap (slice_get run.scans) of.first ∙ ap (λ (l : List Scan). slice_get l 0) only;
         whole = whole;
         not_shown = not_shown (hidden_key hidden) of.removed;
-        not_before = λ number other since until is. absurd (let first = of.first in omega (arith, first, until));
       }
 
   pub may_all_go : run.scans ≡ scan ∷ [] → MayAllGo run hiddens

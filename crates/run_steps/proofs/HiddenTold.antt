@@ -8,6 +8,7 @@ use Rattle.std.specs.List.{AllByRecursion}
 use Rattle.accounts.proofs.Lists.{each_then, flat_map_last}
 use Rattle.accounts.specs.Hidden.{Hidden, hidden_begin, hidden_forget}
 use Rattle.event_tree.specs.declared.input_rule.InputRule.{InputRule}
+use Rattle.file_rows.specs.Removed.{HasListedKeys, IsCleanedBeside, IsListedKey, IsRemoved, SomeMayGo}
 use Rattle.keeper.specs.Keeping.{Keeping}
 use Rattle.kept_rows.proofs.Showing.{both}
 use Rattle.prospect.specs.declared.listed.Listed.{Listed}
@@ -18,7 +19,6 @@ use Rattle.wire_base.specs.declared.note.Note.{Note}
 use Rattle.wire_base.specs.declared.row.Row.{Row}
 use Rattle.run_steps.specs.HiddenRows.{AreHiddenAmong, BeginsOrNothing, RowAt, TellsHidden, TellsOrLeaves, TellsSomeHidden, hidden_as, hidden_notes}
 use Rattle.run_steps.specs.KnownKeys.{KnowsAmong}
-use Rattle.run_steps.specs.Removed.{HasListedKeys, IsCleanedBeside, IsListedKey, IsRemoved, SomeMayGo}
 use Rattle.run_steps.specs.Telling.{TellsNotes}
 use Rattle.run_steps.proofs.KnownKeys.{more_known, row_known}
 use Rattle.run_steps.proofs.Notes.{none_told, told_behind}

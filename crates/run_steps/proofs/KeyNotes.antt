@@ -1,7 +1,6 @@
 -- What the notes of a run say of each key: those of listed files are never forgotten, a row that is removed is gone where its Forget was noted,
 -- and of a key without a slot nothing is noted.
 use Rattle.std.proofs.Common.{◌≡◌, ◌≢◌, ◌⊎◌, inl, inr, ℕ, true, false, List, [], ◌∷◌, Contains, if◌then◌else◌, Option, None, Some, refl, sym, ap, subst, ◌∙◌}
-use Rattle.std.proofs.lemmas.List.Elements.{Contains-append_left, Contains-append_right}
 use Rattle.std.specs.List.{AllByRecursion}
 use Rattle.std.specs.Ordering.{is_eq}
 use Rattle.std.specs.declared.cmp.Ordering.{Ordering}
@@ -12,12 +11,13 @@ use Rattle.accounts.proofs.LastNotes.{collectable_gives_none, none_forgotten}
 use Rattle.accounts.proofs.Ordered.{is_collectable, slots_apart}
 use Rattle.accounts.proofs.Orderly.{member_is}
 use Rattle.accounts.proofs.OwnNotes.{slot_begun}
+use Rattle.accounts.proofs.HiddenSlots.{account_there, hidden_there}
 use Rattle.accounts.specs.Filed.{Filed, account_of, accounts_of, slot_in, turned_of}
 use Rattle.accounts.specs.FollowedFile.{key_in}
-use Rattle.accounts.specs.Hidden.{Hidden, hidden_account, hidden_accounts, hidden_begin, hidden_forget, hidden_key, hidden_slot, with_hidden}
+use Rattle.accounts.specs.Hidden.{Hidden, hidden_account, hidden_begin, hidden_forget, hidden_key, hidden_slot, with_hidden}
 use Rattle.accounts.specs.RunTold.{RunNotes, RunTold}
 use Rattle.accounts.specs.Taken.{Taken, acknowledged_in}
-use Rattle.accounts.specs.ToldNotes.{IsKnownNote}
+use Rattle.accounts.specs.ToldNotes.{IsForgetOf, IsKnownNote, IsNamingOf}
 use Rattle.kept_rows.proofs.Begun.{ForgetNone}
 use Rattle.kept_rows.specs.Account.{Place, SlotAccount, key_of}
 use Rattle.kept_rows.specs.Kept.{IsUnbegun}
@@ -78,7 +78,12 @@ module _ (run : Run) (files : List Filed) (hiddens : List Hidden) (workers : Lis
     key_is = same_begun key (key_in of.file) (slot_in of.file) slot (ap (slot_for key) (sym of.begins.is) ∙ begun);
   })
   whose key slot note (inl (inr (inl of))) begun = absurd (nothing_begins key slot note _ of.is refl begun)
-  whose key slot note (inl (inr (inr of))) begun = by_kind of.is
+  whose key slot note (inl (inr (inr (inr of)))) begun = by_kind of.is
+    where
+      by_kind : IsNamingOf of.file note ⊎ IsForgetOf of.file note → IsOfFile key slot ⊎ IsOfRow key slot
+      by_kind (inl named) = absurd (nothing_begins key slot note _ named.is refl begun)
+      by_kind (inr forget) = absurd (nothing_begins key slot note _ forget.is refl begun)
+  whose key slot note (inl (inr (inr (inl of)))) begun = by_kind of.is
     where
       by_kind : (note ≡ hidden_begin of.hidden) ⊎ (note ≡ hidden_forget of.hidden) → IsOfFile key slot ⊎ IsOfRow key slot
       by_kind (inl is) = inr (record {
@@ -122,15 +127,15 @@ module _ (run : Run) (files : List Filed) (hiddens : List Hidden) (workers : Lis
       by_order Less same rest = by_rest (apart (ap is_eq same)) rest
       by_order Greater same rest = by_rest (apart (ap is_eq same)) rest
 
-  pub keeps_or_hidden : (key : List ℕ) → KeepsItsSlots notes.all key ⊎ IsHiddenKey hiddens key
-  keeps_or_hidden key = by_case (hidden_or_not key hiddens)
+  pub keeps_or_hidden : ((file : Filed) → Contains files file → file.removed ≡ None) → (key : List ℕ) → KeepsItsSlots notes.all key ⊎ IsHiddenKey hiddens key
+  keeps_or_hidden stay key = by_case (hidden_or_not key hiddens)
     where
       keeps : ((hidden : Hidden) → Contains hiddens hidden → hidden_key hidden ≢ key) → KeepsItsSlots notes.all key
       keeps none slot there = by_whose (whose_slot key slot there)
         where
           by_whose : IsOfFile key slot ⊎ IsOfRow key slot → ForgetNone (notes_of slot notes.all)
           by_whose (inl of) = subst (λ (n : ℕ). ForgetNone (notes_of n notes.all)) of.slot_is
-              (none_forgotten files hiddens (acknowledged_in workers) notes.all (slots_apart 0 files told.followed.slots) told.behind (are_notes run files hiddens workers notes told) of.file of.among)
+              (none_forgotten files hiddens (acknowledged_in workers) notes.all (slots_apart 0 files told.followed.slots) told.beside (are_notes run files hiddens workers notes told) of.file of.among (stay of.file of.among))
           by_whose (inr of) = absurd (none of.hidden of.there of.key_is)
 
       by_case : IsHiddenKey hiddens key ⊎ ((hidden : Hidden) → Contains hiddens hidden → hidden_key hidden ≢ key) → KeepsItsSlots notes.all key ⊎ IsHiddenKey hiddens key
@@ -143,10 +148,10 @@ module _ (run : Run) (files : List Filed) (hiddens : List Hidden) (workers : Lis
     not_begun : (slot : ℕ) → IsOfFile key slot ⊎ IsOfRow key slot → ⊥
     not_begun slot (inl of) =
         member_is (λ (one : SlotAccount). key_of one ≢ key) (with_hidden (accounts_of placed files) hiddens) (account_of placed of.file) unbegun
-        (Contains-append_left (accounts_of placed files) (hidden_accounts hiddens) (account_of placed of.file) (mapped_there (account_of placed) files of.file of.among)) of.key_is
+        (account_there (accounts_of placed files) hiddens (account_of placed of.file) (mapped_there (account_of placed) files of.file of.among)) of.key_is
     not_begun slot (inr of) =
         member_is (λ (one : SlotAccount). key_of one ≢ key) (with_hidden (accounts_of placed files) hiddens) (hidden_account of.hidden) unbegun
-        (Contains-append_right (accounts_of placed files) (hidden_accounts hiddens) (hidden_account of.hidden) (mapped_there hidden_account hiddens of.hidden of.there)) of.key_is
+        (hidden_there (accounts_of placed files) hiddens of.hidden of.there) of.key_is
 
     pub begins_none : slots_for key notes.all ≡ []
     begins_none = by_slots (slots_for key notes.all) refl

@@ -1,5 +1,5 @@
 -- A run that reads its files once is a run around its one scan: all listings are the scan's, and each opening that was made for a key is of one input.
-use Rattle.std.proofs.Common.{◌≡◌, ◌≤◌, ℕ, true, List, [], ◌∷◌, ◌++◌, Contains, drop, length, map, append-nil, Some, refl, sym, ap, ◌∙◌, arith}
+use Rattle.std.proofs.Common.{◌≡◌, ◌≤◌, ℕ, true, List, [], ◌∷◌, ◌++◌, Contains, drop, length, map, append-nil, Some, refl, sym, ap, subst, ◌∙◌, arith}
 use Rattle.std.proofs.Math.Seq.{drop-append_seam}
 use Rattle.std.specs.List.{AllByRecursion}
 use Rattle.accounts.specs.ByScans.{IsByScans}
@@ -16,6 +16,9 @@ use Rattle.told_scans.proofs.ScanList.{ended_events, later_events, listed_events
 use Rattle.told_scans.proofs.Scanning.{no_more_listings}
 use Rattle.told_scans.specs.FolderOn.{FolderGoesOn}
 use Rattle.told_scans.specs.OnlyAsked.{IsNoListing}
+use Rattle.told_scans.specs.ToldScans.{AreToldFrom, NothingListed}
+use Rattle.event_tree.specs.declared.settings.Settings.{Settings}
+use Rattle.run_steps.specs.LaterScans.{LaterScan, told_in}
 use Rattle.told_scans.specs.ToldScan.{IsAround, IsTold, IsToldWithoutFault, RunAround, ToldScan, opening_by}
 use Rattle.told_scans.proofs.WholeScans.{answered_whole, answers_are, asks_so, files_answered, globs_served, listed_served, served_are, served_whole}
 use Rattle.prospect.specs.PastFaults.{Answered, Served}
@@ -26,8 +29,8 @@ use Rattle.run_steps.specs.Shown.{HasDone}
 use Rattle.run_steps.specs.SoFar.{SoFar, files_of}
 use Rattle.run_steps.proofs.NamedInputs.{inputs_have_own_ids}
 
-abbrev pub goes_on_doing : (now later : FolderHistory) (so_far : SoFar) → HasDone now later (files_of so_far) → FolderGoesOn now later
-goes_on_doing now later so_far done = record { files = done.files; more = done.more; events = done.events }
+abbrev pub goes_on_doing : (settings : Settings) (now later : FolderHistory) (so_far : SoFar) → HasDone settings now later (files_of so_far) → FolderGoesOn now later
+goes_on_doing settings now later so_far done = record { files = done.files; more = done.more; events = done.events }
 
 -- ---- the scan, and the run around it
 
@@ -69,14 +72,14 @@ around_one start folder moments wires = record {
   behind = [];
 }
 
-abbrev pub is_around : {D : Type 0} (start : Began D) (folder : FolderTold) (so_far : SoFar) → HasDone folder.scanned folder.ended (files_of so_far) → (wires : List WireTold) →
+abbrev pub is_around : {D : Type 0} (start : Began D) (folder : FolderTold) (so_far : SoFar) → HasDone start.settings folder.scanned folder.ended (files_of so_far) → (wires : List WireTold) →
     IsAround (told_scan start folder) (around_one start folder so_far.moments wires)
-is_around start folder so_far done wires = record { goes_on = goes_on_doing folder.scanned folder.ended so_far done; since = omega arith; until = λ place within. tt }
+is_around start folder so_far done wires = record { goes_on = goes_on_doing start.settings folder.scanned folder.ended so_far done; since = omega arith; until = λ place within. tt }
 
 -- ---- what is known of it
 
-module _ {D : Type 0} (start : Began D) (folder : FolderTold) (has : HasScanned start folder) (so_far : SoFar) (done : HasDone folder.scanned folder.ended (files_of so_far))
-    (wires : List WireTold) where
+module _ {D : Type 0} (start : Began D) (folder : FolderTold) (has : HasScanned start folder) (so_far : SoFar) (done : HasDone start.settings folder.scanned folder.ended (files_of so_far))
+    (none : so_far.scans ≡ []) (wires : List WireTold) where
   abbrev run : Run
   run = run_of start folder so_far.moments wires
 
@@ -98,8 +101,19 @@ module _ {D : Type 0} (start : Began D) (folder : FolderTold) (has : HasScanned 
   abbrev began : ℕ
   began = length folder.earlier.events
 
+  -- where it made no later scan, nothing was listed since
+  nothing_listed : NothingListed folder.scanned folder.ended
+  nothing_listed = subst (λ (scans : List LaterScan). AreToldFrom start.settings folder.scanned (told_in scans) folder.ended) none done.scans
+
+  same_more : nothing_listed.more ≡ done.more
+  same_more =
+      sym (drop-append_seam folder.scanned.events nothing_listed.more)
+      ∙ ap (drop (length folder.scanned.events)) (sym nothing_listed.events ∙ done.events)
+      ∙ drop-append_seam folder.scanned.events done.more
+
   no_later_listing : AllByRecursion IsNoListing (later_events told is around on)
-  no_later_listing = both IsNoListing (only_asks told is around on).more done.more (only_asks told is around on).no_listing done.no_listing
+  no_later_listing = both IsNoListing (only_asks told is around on).more done.more (only_asks told is around on).no_listing
+      (subst (AllByRecursion IsNoListing) same_more nothing_listed.no_listing)
 
   all_listings : listings_of run.trace ≡ listings_from began (listed_events told is around on)
   all_listings =

@@ -8,6 +8,7 @@ use Rattle.std.specs.Prelude.{slice_get}
 use Rattle.std.specs.List.{AllByRecursion}
 use Rattle.accounts.specs.Opened.{Opened as OpenedFile}
 use Rattle.accounts.proofs.Lists.{each_then}
+use Rattle.event_tree.specs.declared.settings.Settings.{Settings}
 use Rattle.file_identity.specs.AskedAgain.{IsRead}
 use Rattle.kept_rows.specs.Scans.{AreDistinct}
 use Rattle.kept_rows.specs.Trace.{Closing, closing_by, closing_in, first_of_two}
@@ -18,8 +19,12 @@ use Rattle.outside.specs.Tails.{TailHistory}
 use Rattle.outside.specs.declared.history.Look.{Look}
 use Rattle.outside.specs.declared.history.Sight.{Sight}
 use Rattle.ship_core.proofs.Members.{first_there, later_there, none_there, there_cases}
+use Rattle.told_scans.proofs.ScanAdds.{closes_another}
+use Rattle.told_scans.proofs.ToldScans.{nothing_appended}
+use Rattle.told_scans.specs.ToldScans.{AreToldFrom}
 use Rattle.told_scans.specs.OnlyAsked.{IsNoListing, WasClosedWith, WasOnlyAsked}
 use Rattle.run_steps.specs.Shown.{HasDone, IsStillOpen, IsTurnedIn, WasOpenedSince, openings_of}
+use Rattle.run_steps.specs.LaterScans.{LaterScan, told_in}
 use Rattle.run_steps.specs.SoFar.{Left, SoFar, files_of}
 use Rattle.accounts.proofs.Orderly.{member_is}
 use Rattle.run_steps.proofs.Closing.{closes_its}
@@ -49,14 +54,6 @@ none_in_both opening (event ∷ events) more none later = go (closing_by opening
         (closing_in opening events ≡ None → closing_in opening (events ++ more) ≡ None) → first_of_two o (closing_in opening (events ++ more)) ≡ None
     go None e again = again e
     go (Some first) e again = e
-
--- a closing of another opening
-closes_no_other : (opening of : ℕ) (looks : List Look) (faults : ℕ) → opening < of → closing_in opening (Closed of looks faults ∷ []) ≡ None
-closes_no_other opening of looks faults less = by_case (of == opening) refl
-  where
-    by_case : (b : Bool) → (of == opening) ≡ b → closing_in opening (Closed of looks faults ∷ []) ≡ None
-    by_case true is = absurd (let same = eqb-true of opening is in omega (arith, same, less))
-    by_case false is = ap (λ (b : Bool). first_of_two (if b then Some (record { looks = looks; faults = faults }) else None) (closing_in opening [])) is
 
 -- ---- places
 
@@ -127,11 +124,11 @@ openings_below before now (one ∷ files) each opening there = from (there_cases
     from (inl same) later = let less = slice_get_within now.events one.opening (Opened one.begin.path one.number one.begun) each.0.stands in omega (arith, less, same)
     from (inr behind) later = later behind
 
-pub below_all : (before now : FolderHistory) (so_far : SoFar) → HasDone before now (files_of so_far) → (one : OpenedFile) → Contains so_far.opened one → one.opening < length now.events
-below_all before now so_far done one there =
+pub below_all : (settings : Settings) (before now : FolderHistory) (so_far : SoFar) → HasDone settings before now (files_of so_far) → (one : OpenedFile) → Contains so_far.opened one → one.opening < length now.events
+below_all settings before now so_far done one there =
     slice_get_within now.events one.opening (Opened one.begin.path one.number one.begun) (member_is (WasOpenedSince before now) so_far.opened one done.opened there).stands
 
-module _ (before now : FolderHistory) (so_far : SoFar) (done : HasDone before now (files_of so_far)) (more : List Event) where
+module _ (settings : Settings) (before now : FolderHistory) (so_far : SoFar) (done : HasDone settings before now (files_of so_far)) (more : List Event) where
   pub closed_stays : (opening : ℕ) (looks : List Look) → WasClosedWith now opening looks → WasClosedWith (with_more now more) opening looks
   closed_stays opening looks was = record {
     faults = was.faults;
@@ -153,7 +150,7 @@ module _ (before now : FolderHistory) (so_far : SoFar) (done : HasDone before no
       go None was = tt
       go (Some tail) was = closed_stays tail.opening tail.looks was
 
-  opened_stays : (files : List OpenedFile) → AllByRecursion (WasOpenedSince before now) files → AllByRecursion (WasOpenedSince before (with_more now more)) files
+  pub opened_stays : (files : List OpenedFile) → AllByRecursion (WasOpenedSince before now) files → AllByRecursion (WasOpenedSince before (with_more now more)) files
   opened_stays files each = each_then (WasOpenedSince before now) (WasOpenedSince before (with_more now more)) files
       (λ one was. record {
         since = was.since;
@@ -191,14 +188,16 @@ module _ (before now : FolderHistory) (so_far : SoFar) (done : HasDone before no
         from (inl there) = old (done.serve opening path number begun least there)
         from (inr of) = new of.place of.at (adds.serve of.place path number begun of.stands)
 
-    pub done_on : (after : SoFar) → after.opened ≡ so_far.opened ++ news → AreDistinct (openings_of so_far.opened ++ openings_of news) →
+    pub done_on : (after : SoFar) → after.scans ≡ so_far.scans → after.opened ≡ so_far.opened ++ news → AreDistinct (openings_of so_far.opened ++ openings_of news) →
         AllByRecursion (IsClosedIn (with_more now more)) after.left → ((one : OpenedFile) → Contains (so_far.opened ++ news) one → IsTurnedIn (files_of after) one → IsStillOpen (with_more now more) one.opening) →
-        HasDone before (with_more now more) (files_of after)
-    done_on after opened_are apart closed still = record {
+        HasDone settings before (with_more now more) (files_of after)
+    done_on after scans_are opened_are apart closed still = record {
       files = done.files;
       more = done.more ++ more;
       events = ap (λ (l : List Event). l ++ more) done.events ∙ append_assoc before.events done.more more;
-      no_listing = both IsNoListing done.more more done.no_listing adds.no_listing;
+      scans = subst (λ (scans : List LaterScan). AreToldFrom settings before (told_in scans) (with_more now more)) (sym scans_are)
+          (nothing_appended settings before (told_in so_far.scans) now (with_more now more) done.scans
+          (record { files = refl; more = more; events = refl; no_listing = adds.no_listing }));
       opened = subst (AllByRecursion (WasOpenedSince before (with_more now more))) (sym opened_are)
           (both (WasOpenedSince before (with_more now more)) so_far.opened news (opened_stays so_far.opened done.opened) news_stand);
       apart = subst AreDistinct (sym (ap openings_of opened_are ∙ openings_are)) apart;
@@ -293,7 +292,7 @@ module _ (now : FolderHistory) where
       }
 
       none_closed : (opening : ℕ) → opening < length now.events → closing_in opening both_events ≡ None
-      none_closed opening less = closes_no_other opening one.opening one.asked faults (omega (arith, less, at))
+      none_closed opening less = closes_another opening one.opening one.asked faults (omega (arith, less, at))
 
       closes_here : (place : ℕ) → place ≡ 0 → WasOnlyAsked (with_more now both_events) (length now.events + place)
       closes_here place is = subst (WasOnlyAsked (with_more now both_events)) (omega (arith, at, is)) (record { looks = one.asked; closed = closed_at_once; reads = reads })

@@ -113,7 +113,7 @@ module _ {T W L D : Type 0} (words : Words T W L D) (start : Began D) (ending : 
   all_left : files_in so_far ≡ map (λ (one : Left). one.turned) so_far.left
   all_left =
       ap (λ (l : List Turned). l ++ map (λ (one : Left). one.turned) so_far.left)
-      (none_turned words.tails (watch_of start) so_far.opened so_far.moments so_far.lanes (lanings ended.ends.crew.lanes.items) ended.ends.stands.files.turned
+      (none_turned words.tails (watch_of start so_far.scans) so_far.opened so_far.moments so_far.lanes (lanings ended.ends.crew.lanes.items) ended.ends.stands.files.turned
       (each_of HasNoHarvesters (lanings ended.ends.crew.lanes.items) ended.left.released))
 
   last_over : Found (IsLastOver slot) (λ (one : Left). one.turned) so_far.left
@@ -124,8 +124,8 @@ module _ {T W L D : Type 0} (words : Words T W L D) (start : Began D) (ending : 
   abbrev left : Left
   left = last_over.one
 
-  is_left : IsLeftSo (watch_of start) so_far.opened so_far.moments left
-  is_left = member_is (IsLeftSo (watch_of start) so_far.opened so_far.moments) so_far.left left ended.ends.stands.files.left last_over.among
+  is_left : IsLeftSo (watch_of start so_far.scans) so_far.opened so_far.moments left
+  is_left = member_is (IsLeftSo (watch_of start so_far.scans) so_far.opened so_far.moments) so_far.left left ended.ends.stands.files.left last_over.among
 
   abbrev file : Opened
   file = is_left.file
@@ -136,7 +136,7 @@ module _ {T W L D : Type 0} (words : Words T W L D) (start : Began D) (ending : 
   slot_is : file.begin.slot ≡ slot
   slot_is = sym is_left.is_told.slot ∙ last_over.is.of_slot
 
-  module _ (before after : FolderHistory) (tells : IsSome start.shown) (done : HasDone before after (files_of so_far)) (one : Listed) (there : slice_get start.listed slot.0 ≡ Some one) where
+  module _ (before after : FolderHistory) (tells : IsSome start.shown) (done : HasDone start.settings before after (files_of so_far)) (one : Listed) (there : slice_get start.listed slot.0 ≡ Some one) where
     same : as_listed.one ≡ one
     same = some_is as_listed.one one (sym as_listed.listed_there ∙ ap (λ (s : Slot). slice_get start.listed s.0) slot_is ∙ there)
 
@@ -152,7 +152,7 @@ module _ {T W L D : Type 0} (words : Words T W L D) (start : Began D) (ending : 
     opened_since : WasOpenedSince before after file
     opened_since = member_is (WasOpenedSince before after) so_far.opened file done.opened is_left.among
 
-    module _ (tail : TailHistory) (told : IsToldFile (watch_of start) file so_far.moments left.turned (Some tail)) where
+    module _ (tail : TailHistory) (told : IsToldFile (watch_of start so_far.scans) file so_far.moments left.turned (Some tail)) where
       abbrev h : History
       h = left.turned.history
 
@@ -178,7 +178,7 @@ module _ {T W L D : Type 0} (words : Words T W L D) (start : Began D) (ending : 
       kept_key =
           subst (λ (l : List Look). AllByRecursion (KeepsKey file.rule file.begin.key file.begin.path file.file) (segments_of file.begin.base l))
           (all_kept (joined_turned left.turned).history tail.looks keeps)
-          (file_is_read (watch_of start) file so_far.moments left.turned tail keyed told).kept
+          (file_is_read (watch_of start so_far.scans) file so_far.moments left.turned tail keyed told).kept
         where
           keyed : IsKeyed file
           keyed = member_is IsKeyed so_far.opened file (ended.ends.stands.files.keyed tells) is_left.among
@@ -207,7 +207,7 @@ module _ {T W L D : Type 0} (words : Words T W L D) (start : Began D) (ending : 
             (subst (λ (n : ℕ). file.begin.epoch.0 + falls_in n tail.looks ≡ MAX_EPOCH + 1) base_is all_epochs);
       }
 
-    by_told : (told : Option TailHistory) → IsSome told → IsToldFile (watch_of start) file so_far.moments left.turned told → IfSome told (λ tail. WasClosedWith after tail.opening tail.looks) →
+    by_told : (told : Option TailHistory) → IsSome told → IsToldFile (watch_of start so_far.scans) file so_far.moments left.turned told → IfSome told (λ tail. WasClosedWith after tail.opening tail.looks) →
         RanOutOfEpochs start.settings.inputs start.opening one before after
     by_told None some told closed = absurd cc
     by_told (Some tail) some told closed = by_tail tail told closed
@@ -222,4 +222,4 @@ module _ {T W L D : Type 0} (words : Words T W L D) (start : Began D) (ending : 
       RanOutOfEpochs start.settings.inputs start.opening one before after
   has_run_out before after told tells one there =
       ran_out before after (subst (λ (o : Option FolderHistory). IsSome o) (sym told) refl)
-      (subst (λ (o : Option FolderHistory). HasShown (Some before) o (files_of so_far)) tells (subst (λ (o : Option FolderHistory). HasShown o ending.shown (files_of so_far)) told ended.ends.stands.files.shown)) one there
+      (subst (λ (o : Option FolderHistory). HasShown start.settings (Some before) o (files_of so_far)) tells (subst (λ (o : Option FolderHistory). HasShown start.settings o ending.shown (files_of so_far)) told ended.ends.stands.files.shown)) one there

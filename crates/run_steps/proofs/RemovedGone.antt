@@ -6,16 +6,18 @@ use Rattle.std.specs.Option.{is_some, option_and_then}
 use Rattle.std.specs.Ordering.{is_eq}
 use Rattle.accounts.proofs.BegunRows.{are_notes, found_there}
 use Rattle.accounts.proofs.Grounded.{each_member}
-use Rattle.accounts.proofs.HiddenSlots.{hidden_found, hidden_from}
+use Rattle.accounts.proofs.HiddenSlots.{hidden_found}
 use Rattle.accounts.proofs.Ordered.{IsCollectable, is_collectable}
 use Rattle.accounts.proofs.Orderly.{member_is, same_item}
 use Rattle.accounts.specs.Filed.{Filed, slot_in, turned_of}
 use Rattle.accounts.specs.FollowedFile.{key_in}
+use Rattle.kept_rows.specs.Followed.{Start as StartBy, start_unlisted}
 use Rattle.accounts.specs.Hidden.{Hidden, hidden_account, hidden_begin, hidden_forget, hidden_key, hidden_slot, with_hidden}
 use Rattle.accounts.specs.RunTold.{RunNotes, RunTold}
 use Rattle.accounts.specs.Taken.{Taken, acknowledged_in}
-use Rattle.accounts.specs.ToldNotes.{IsKnownNote}
+use Rattle.accounts.specs.ToldNotes.{IsForgetOf, IsKnownNote, IsNamingOf}
 use Rattle.event_tree.specs.declared.input_rule.InputRule.{InputRule}
+use Rattle.file_rows.specs.Removed.{IsListedKey, IsRemoved}
 use Rattle.kept_rows.proofs.Images.{found_by_its_key}
 use Rattle.kept_rows.specs.Account.{SlotAccount, slot_at}
 use Rattle.kept_rows.specs.Run.{Run}
@@ -29,7 +31,6 @@ use Rattle.wire_base.specs.declared.note.Note.{Note}
 use Rattle.wire_base.specs.declared.note.Note.TheVariants.{Announce, Begin, Forget, Rename, Seen, Settle}
 use Rattle.wire_base.specs.declared.row.Row.{Row}
 use Rattle.run_steps.specs.HiddenRows.{AreAllForgotten, WasTold}
-use Rattle.run_steps.specs.Removed.{IsListedKey, IsRemoved}
 use Rattle.run_steps.proofs.HiddenAmong.{IsHiddenOf}
 use Rattle.run_steps.proofs.KeyNotes.{IsOfFile, IsOfRow, whose, whose_slot}
 
@@ -70,19 +71,17 @@ module _ (run : Run) (files : List Filed) (hiddens : List Hidden) (workers : Lis
 
     -- where it began
     record StartsThere (start : Start) : Type 0 where
-      epoch_is : start.epoch ≡ hidden.row.epoch.0
-      base_is : start.base ≡ hidden.row.offset
+      epoch_is : start.epoch ≡ hidden.start.epoch
+      base_is : start.base ≡ hidden.start.base
 
     no_file : (file : Filed) → Contains files file → slot_in file ≡ hidden_slot hidden → ⊥
     no_file file among same =
-        let less = member_is (λ (f : Filed). slot_in f < told.behind.least) files file told.behind.files_below among in
-        let from = hidden_from told.behind.least hiddens hidden told.behind.slots there in
-        omega (arith, less, from, same)
+        told.beside.other_slots file among hidden there same
 
     by_same_slot : (other : Hidden) → Contains hiddens other → hidden_slot other ≡ hidden_slot hidden → hidden_account other ≡ hidden_account hidden
     by_same_slot other among same =
-        let one = hidden_found [] told.behind.least hiddens hidden tt told.behind.slots there in
-        let two = hidden_found [] told.behind.least hiddens other tt told.behind.slots among in
+        let one = hidden_found [] 0 hiddens hidden tt told.beside.slots there in
+        let two = hidden_found [] 0 hiddens other tt told.beside.slots among in
         let q : Some (hidden_account other) ≡ Some (hidden_account hidden) = sym two ∙ ap (λ (n : ℕ). slot_at n (with_hidden [] hiddens)) same ∙ one in cc
 
     starts_there : (note : Note) (start : Start) → Contains notes.all note → slot_of note ≡ hidden_slot hidden → start_of note ≡ Some start → StartsThere start
@@ -91,18 +90,23 @@ module _ (run : Run) (files : List Filed) (hiddens : List Hidden) (workers : Lis
         of_hidden : (other : Hidden) → Contains hiddens other → (note ≡ hidden_begin other) ⊎ (note ≡ hidden_forget other) → StartsThere start
         of_hidden other of (inl is) =
             let same = by_same_slot other of (ap slot_of (sym is) ∙ slot) in
-            let starts : Some (record { key = hidden_key other; path = other.row.path; epoch = other.row.epoch.0; base = other.row.offset }) ≡ Some start = ap start_of (sym is) ∙ begun in
-            let its : record { key = hidden_key other; path = other.row.path; epoch = other.row.epoch.0; base = other.row.offset } ≡ start = cc in
+            let starts : Some (record { key = hidden_key other; path = other.row.path; epoch = other.start.epoch; base = other.start.base }) ≡ Some start = ap start_of (sym is) ∙ begun in
+            let its : record { key = hidden_key other; path = other.row.path; epoch = other.start.epoch; base = other.start.base } ≡ start = cc in
             record {
               epoch_is = ap (λ (s : Start). s.epoch) (sym its) ∙ ap (λ (one : SlotAccount). one.following.epoch) same;
               base_is = ap (λ (s : Start). s.base) (sym its) ∙ ap (λ (one : SlotAccount). one.following.base) same;
             }
         of_hidden other of (inr is) = absurd (let q : None ≡ Some start = ap start_of (sym is) ∙ begun in cc)
 
+        of_file : (file : Filed) → IsNamingOf file note ⊎ IsForgetOf file note → StartsThere start
+        of_file file (inl named) = absurd (let q : None ≡ Some start = ap start_of (sym named.is) ∙ begun in cc)
+        of_file file (inr forget) = absurd (let q : None ≡ Some start = ap start_of (sym forget.is) ∙ begun in cc)
+
         by_kind : Known note → StartsThere start
         by_kind (inl (inl of)) = absurd (no_file of.file of.of_files (ap slot_of (sym of.begins.is) ∙ slot))
         by_kind (inl (inr (inl of))) = absurd (let q : None ≡ Some start = ap start_of (sym of.is) ∙ begun in cc)
-        by_kind (inl (inr (inr of))) = of_hidden of.hidden of.of_hiddens of.is
+        by_kind (inl (inr (inr (inl of)))) = of_hidden of.hidden of.of_hiddens of.is
+        by_kind (inl (inr (inr (inr of)))) = of_file of.file of.is
         by_kind (inr ground) = absurd (no_start note start (is_collectable (turned_of files) (acknowledged_in workers) note ground) begun)
 
     goes : (start : Start) → start_over own ≡ Some start → is_gone start own ≡ true
@@ -111,13 +115,13 @@ module _ (run : Run) (files : List Filed) (hiddens : List Hidden) (workers : Lis
         (⊎_elim (λ below. or_left (nat_lt epoch (greatest_epoch own)) ((epoch == greatest_epoch own) && nat_le end (offset_over start own)) (lt-ltb epoch (greatest_epoch own) below)) at_it (cases_lt epoch (greatest_epoch own)))
       where
         epoch : ℕ
-        epoch = hidden.row.epoch.0
+        epoch = hidden.start.epoch
 
         end : ℕ
-        end = hidden.row.offset
+        end = hidden.start.base
 
-        within : hidden.row.epoch.0 ≤ greatest_epoch own
-        within = member_within 0 (filter_map epoch_of own) hidden.row.epoch.0 (given_there epoch_of own (hidden_forget hidden) hidden.row.epoch.0 forget_own refl)
+        within : hidden.start.epoch ≤ greatest_epoch own
+        within = member_within 0 (filter_map epoch_of own) hidden.start.epoch (given_there epoch_of own (hidden_forget hidden) hidden.start.epoch forget_own refl)
 
         its : StartsThere start
         its =
@@ -125,15 +129,15 @@ module _ (run : Run) (files : List Filed) (hiddens : List Hidden) (workers : Lis
             let passed = there_passed (λ (n : Note). slot_of n == hidden_slot hidden) notes.all of.0 of.1 in
             starts_there of.0 start passed.0 (eqb-true (slot_of of.0) (hidden_slot hidden) passed.1) of.2
 
-        at_it : greatest_epoch own ≤ hidden.row.epoch.0 → (nat_lt hidden.row.epoch.0 (greatest_epoch own) || ((hidden.row.epoch.0 == greatest_epoch own) && nat_le hidden.row.offset (offset_over start own))) ≡ true
+        at_it : greatest_epoch own ≤ hidden.start.epoch → (nat_lt hidden.start.epoch (greatest_epoch own) || ((hidden.start.epoch == greatest_epoch own) && nat_le hidden.start.base (offset_over start own))) ≡ true
         at_it most =
-            let same : hidden.row.epoch.0 ≡ greatest_epoch own = omega (arith, most, within) in
-            let base : base_in start (greatest_epoch own) ≡ hidden.row.offset =
+            let same : hidden.start.epoch ≡ greatest_epoch own = omega (arith, most, within) in
+            let base : base_in start (greatest_epoch own) ≡ hidden.start.base =
             ap (λ (b : Bool). if b then start.base else 0) (eq-eqb (greatest_epoch own) start.epoch (sym same ∙ sym its.epoch_is)) ∙ its.base_is in
             let covered = no_nearer [] (spans_in (greatest_epoch own) own) (base_in start (greatest_epoch own)) in
-            or_right (nat_lt hidden.row.epoch.0 (greatest_epoch own)) ((hidden.row.epoch.0 == greatest_epoch own) && nat_le hidden.row.offset (offset_over start own))
-            (and_from (hidden.row.epoch.0 == greatest_epoch own) (nat_le hidden.row.offset (offset_over start own)) (eq-eqb hidden.row.epoch.0 (greatest_epoch own) same)
-            (le-leb hidden.row.offset (offset_over start own) (omega (arith, base, covered))))
+            or_right (nat_lt hidden.start.epoch (greatest_epoch own)) ((hidden.start.epoch == greatest_epoch own) && nat_le hidden.start.base (offset_over start own))
+            (and_from (hidden.start.epoch == greatest_epoch own) (nat_le hidden.start.base (offset_over start own)) (eq-eqb hidden.start.epoch (greatest_epoch own) same)
+            (le-leb hidden.start.base (offset_over start own) (omega (arith, base, covered))))
 
     pub row_is_gone : row_over (hidden_slot hidden) notes.all ≡ None
     row_is_gone = by_start (start_over own) refl
@@ -165,7 +169,10 @@ module _ (run : Run) (files : List Filed) (hiddens : List Hidden) (workers : Lis
         (whose run files hiddens workers notes told (hidden_key hidden) (hidden_slot other) (hidden_begin other) (member_is Known notes.all (hidden_begin other) each_known was.begun) (begins_its_key (hidden_key hidden) other key_same)) in
         let same : its.hidden ≡ hidden = same_item hidden_key hiddens its.hidden hidden told.may_go.apart its.there there its.key_is in
         let slots : hidden_slot other ≡ hidden_slot hidden = sym its.slot_is ∙ ap hidden_slot same in
-        subst (Contains notes.all) (ap (λ (n : ℕ). Forget (record { 0 = n }) other.row.epoch other.row.offset) slots ∙ ap (λ (r : Row). Forget hidden.slot r.epoch r.offset) was.row_is) was.forgotten
+        let starts : other.start ≡ hidden.start = was.starts ∙ ap start_unlisted was.row_is ∙ sym of.starts in
+        subst (Contains notes.all)
+        (ap (λ (n : ℕ). Forget (record { 0 = n }) (record { 0 = other.start.epoch }) other.start.base) slots
+        ∙ ap (λ (s : StartBy). Forget hidden.slot (record { 0 = s.epoch }) s.base) starts) was.forgotten
 
     none_stands : (key : List ℕ) → IsRemoved inputs listed key → (slot : ℕ) → Contains (slots_for key notes.all) slot → is_some (row_over slot notes.all) ≡ false
     none_stands key removed slot among =

@@ -9,6 +9,7 @@ use Rattle.std.specs.List.{AllByRecursion}
 use Rattle.accounts.proofs.AccountingFor.{is_accounted_for}
 use Rattle.accounts.proofs.Ordered.{none_orderly}
 use Rattle.accounts.proofs.Unscanned.{unscanned_is_accounted_for}
+use Rattle.accounts.proofs.Turns.{apart_take_turns}
 use Rattle.accounts.specs.AccountedFor.{AccountsFor}
 use Rattle.accounts.specs.FollowedFile.{EachOpeningIsOne}
 use Rattle.accounts.specs.ByScans.{IsByScans}
@@ -54,6 +55,7 @@ use Rattle.run_steps.specs.Areas.{BeganAtRest, GaveRows, GiveTheRows, HaveHeldFr
 use Rattle.run_steps.specs.Began.{Began}
 use Rattle.told_scans.specs.FolderOn.{FolderGoesOn}
 use Rattle.run_steps.specs.Met.{IsTelling}
+use Rattle.run_steps.specs.Questions.{Questions}
 use Rattle.run_steps.specs.RunOf.{FolderTold, run_of, scan_of, wires_behind}
 use Rattle.told_scans.specs.OnlyAsked.{HasOnlyAsked}
 use Rattle.run_steps.specs.ScannedSome.{HasScannedSome}
@@ -272,10 +274,11 @@ module _ {D : Type 0} (disks : DiskWords D) (start : Began D) (folder : FolderTo
   early_told : RunTold early_run [] [] (took_none outcomes) no_notes
   early_told = record {
     by = by_scans;
-    followed = record { each = tt; slots = tt; keys_apart = tt; newly_known = tt; openings_apart = tt; openings_serve = no_opening };
+    followed = record { each = tt; slots = tt; openings_apart = tt; openings_serve = no_opening };
     talks = silent_wires outcomes;
     may_go = record { each = tt; apart = tt };
-    behind = record { least = 0; files_below = tt; slots = tt; other_keys = λ file none. absurd (none_there file none) };
+    beside = record { slots = tt; other_slots = λ file none. absurd (none_there file none) };
+    turns = apart_take_turns early_run [] [] [] tt tt (λ file none. absurd (none_there file none)) tt;
     told = record { each = tt; begun = tt; hidden_begun = tt };
     mixed = record { often = λ h. refl; orderly = none_orderly };
     fits = record {
@@ -288,16 +291,17 @@ module _ {D : Type 0} (disks : DiskWords D) (start : Began D) (folder : FolderTo
       notes = [];
       notes_are = λ h. ap (λ l. weigh h (notes_of l)) (acknowledged_none outcomes);
     };
+    gone = tt;
   }
 
   early_accounts : AccountsFor early_run [] []
   early_accounts = (is_accounted_for early_run [] [] (took_none outcomes) no_notes early_told).accounts
 
-  module _ (a b : D) (one : OneChoice) (gave : GaveRows disks start) (areas : BeganAtRest disks start → HaveHeldFronts disks start.opening [] start.a start.b a b) where
+  module _ (a b : D) (asked then_asked : Questions) (one : OneChoice) (gave : GaveRows disks start) (areas : BeganAtRest disks start → HaveHeldFronts disks start.opening [] start.a start.b a b) where
     abbrev pub early_objects : RunObjects D
     early_objects = record {
-      before = record { folder = Some folder.earlier; moments = start.moments; outcomes = outcomes; a = start.a; b = start.b };
-      after = record { folder = Some folder.scanned; moments = later; outcomes = outcomes; a = a; b = b };
+      before = record { folder = Some folder.earlier; moments = start.moments; questions = asked; outcomes = outcomes; a = start.a; b = start.b };
+      after = record { folder = Some folder.scanned; moments = later; questions = then_asked; outcomes = outcomes; a = a; b = b };
     }
 
     image_rows : (Absent : Absences) → IsInOrder start.opening → (rows : List Row) → AreRowsOverFronts start.opening [] rows → AreImageRows early_run [] Absent rows
@@ -342,6 +346,11 @@ module _ {D : Type 0} (disks : DiskWords D) (start : Began D) (folder : FolderTo
       read = λ stopped. tt;
     }
 
+    -- by these moments
+    pub early_moments : (met : Met) (not_telling : ¬ (IsTelling met)) → (early_is_accounted_for met not_telling).run.trace.moments ≡ moments
+    unfolding early_is_accounted_for
+    early_moments met not_telling = refl
+
 -- ---- a run that made no scan
 
 -- it ended before: its folder, its clock and its wires tell what they told before
@@ -381,12 +390,12 @@ module _ {D : Type 0} (disks : DiskWords D) (settings : Settings) (opening : Lis
   still_accounts : AccountsFor still_run [] []
   still_accounts = unscanned_is_accounted_for still_run is_unscanned
 
-  module _ (from_a from_b a b : D) (one : OneChoice) (gave : GiveTheRows disks from_a from_b opening)
+  module _ (from_a from_b a b : D) (asked : Questions) (one : OneChoice) (gave : GiveTheRows disks from_a from_b opening)
       (areas : AreAtRest disks.contents disks.images from_a from_b → HaveHeldFronts disks opening [] from_a from_b a b) where
     abbrev pub still_objects : RunObjects D
     still_objects = record {
-      before = record { folder = Some told; moments = Some before; outcomes = outcomes; a = from_a; b = from_b };
-      after = record { folder = Some told; moments = Some before; outcomes = outcomes; a = a; b = b };
+      before = record { folder = Some told; moments = Some before; questions = asked; outcomes = outcomes; a = from_a; b = from_b };
+      after = record { folder = Some told; moments = Some before; questions = asked; outcomes = outcomes; a = a; b = b };
     }
 
     still_image_rows : (Absent : Absences) → IsInOrder opening → (rows : List Row) → AreRowsOverFronts opening [] rows → AreImageRows still_run [] Absent rows
@@ -430,3 +439,8 @@ module _ {D : Type 0} (disks : DiskWords D) (settings : Settings) (opening : Lis
       taken_up = λ telling. absurd (not_telling telling);
       read = λ stopped. tt;
     }
+
+    -- by no moment
+    pub still_moments : (met : Met) (not_telling : ¬ (IsTelling met)) → (still_is_accounted_for met not_telling).run.trace.moments ≡ []
+    unfolding still_is_accounted_for
+    still_moments met not_telling = refl

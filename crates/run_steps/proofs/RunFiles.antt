@@ -1,5 +1,5 @@
 -- The files of a run, each with what its tail told as it was closed: listed by the run's scan, opened behind it, and begun once.
-use Rattle.std.proofs.Common.{◌≡◌, ◌⊎◌, inl, inr, ⊎_elim, ℕ, suc, ◌+◌, ◌≤◌, max, min, All, List, [], ◌∷◌, ◌++◌, Contains, append-nil, drop, length, map, Option, Some, None, IsSome, IfSome, refl, sym, ap, subst, ◌∙◌, arith, Bool, true, false, nat_le, if◌then◌else◌}
+use Rattle.std.proofs.Common.{◌≡◌, ◌⊎◌, inl, inr, ⊎_elim, ℕ, suc, ◌+◌, ◌≤◌, max, min, All, List, [], ◌∷◌, ◌++◌, Contains, append-nil, drop, length, map, Option, Some, None, IsSome, IfSome, refl, sym, ap, subst, ◌∙◌, arith, Bool, true, false, nat_le, ◌==◌, if◌then◌else◌}
 use Rattle.std.proofs.lemmas.Bool.{cases_lt}
 use Rattle.std.proofs.lemmas.List.Elements.{Contains-append_left}
 use Rattle.std.specs.Prelude.{option_map, slice_get}
@@ -11,8 +11,9 @@ use Rattle.accounts.proofs.Grounded.{each_member, of_map}
 use Rattle.accounts.proofs.Joining.{AreJoined, AreOpenedInSlots, IsJoined, join, joined_in_slots, told_by_its_tail}
 use Rattle.accounts.proofs.Onward.{told_by_other}
 use Rattle.accounts.proofs.Orderly.{member_is, same_item}
+use Rattle.accounts.proofs.Removing.{none_left, not_removed}
 use Rattle.accounts.specs.Filed.{Filed, Opening, first_opening, following_of}
-use Rattle.accounts.specs.FollowedFile.{AreFollowedFiles, AreInSlots, AreReopened, EachOpeningIsOne, IsFollowedFile, IsListedAs, WasShownLast, begins_by, moment_by, openings_in, start_in, tail_of}
+use Rattle.accounts.specs.FollowedFile.{AreFollowedFiles, AreInSlots, AreReopened, EachOpeningIsOne, IsFollowedFile, IsListedAs, WasShownLast, begins_by, key_in, moment_by, openings_in, start_in, tail_of}
 use Rattle.accounts.specs.Opened.{Opened}
 use Rattle.accounts.specs.ToldFile.{IsToldFile}
 use Rattle.accounts.specs.Turned.{Turned}
@@ -63,6 +64,7 @@ use Rattle.told_scans.proofs.FirstPaths.{is_first_path}
 use Rattle.told_scans.proofs.ScanAsked.{in_this_run}
 use Rattle.told_scans.proofs.ScanList.{IsOfEntry, asked_apart, asked_within, behind_listings, entry_of, is_before, placed_in_scan, since_listed}
 use Rattle.told_scans.proofs.ScanOf.{ShowsSome, shows_file}
+use Rattle.run_steps.proofs.LaterScans.{none_named}
 use Rattle.run_steps.proofs.OneScan.{around_one, is_around, told_so}
 use Rattle.told_scans.specs.ToldScan.{IsAround, IsTold, RunAround, ToldScan}
 
@@ -151,7 +153,7 @@ module _ {T W L D : Type 0} (words : Words T W L D) (start : Began D) (state : R
   scan = scan_of start folder
 
   abbrev watch : Watch
-  watch = watch_of start
+  watch = watch_of start so_far.scans
 
   abbrev looks : Opened → List Look
   looks = looks_in folder.ended
@@ -159,8 +161,11 @@ module _ {T W L D : Type 0} (words : Words T W L D) (start : Began D) (state : R
   abbrev changed : Opened → ℕ
   changed = moment_listed start.opening start.listed
 
-  pub done : HasDone folder.scanned folder.ended (files_of so_far)
-  done = subst (λ (o : Option FolderHistory). HasShown (Some folder.scanned) o (files_of so_far)) shown (subst (λ (o : Option FolderHistory). HasShown o state.shown (files_of so_far)) has.shown stands.files.shown)
+  pub done : HasDone start.settings folder.scanned folder.ended (files_of so_far)
+  done = subst (λ (o : Option FolderHistory). HasShown start.settings (Some folder.scanned) o (files_of so_far)) shown (subst (λ (o : Option FolderHistory). HasShown start.settings o state.shown (files_of so_far)) has.shown stands.files.shown)
+
+  pub none_later : so_far.scans ≡ []
+  none_later = stands.files.scans.none_with_once has.once
 
   abbrev the_scan : ToldScan
   the_scan = told_scan start folder
@@ -355,7 +360,9 @@ module _ {T W L D : Type 0} (words : Words T W L D) (start : Began D) (state : R
         ∙ ap (λ (o : Option (List ℕ)). max (option_map_or (λ (row : Row). row.changed.0) (row_of start.opening o) 0) (moment_in its_entry)) as_listed.keyed
 
     pub moment_noted_is : file.changed ≡ moment_by run file its_entry
-    moment_noted_is = moment_is ∙ changed_by_entry
+    moment_noted_is =
+        moment_is ∙ changed_by_entry
+        ∙ ap (λ (n : ℕ). max (if n == 0 then opening_moment start.opening key else 0) (moment_in its_entry)) (sym is_joined.known_is)
 
     pub is_followed : IsFollowedFile run file
     is_followed = record {
@@ -369,11 +376,14 @@ module _ {T W L D : Type 0} (words : Words T W L D) (start : Began D) (state : R
         opened = opened_since.stands;
         tells = tells_looks;
       };
-      told = told_by_other watch (watch_in run) one so_far.moments file.turned (Some (tail_of file)) refl (λ name renamed. absurd renamed) (λ may. inl refl)
+      told = told_by_other watch (watch_in run) one so_far.moments file.turned (Some (tail_of file)) refl (λ name renamed. absurd (none_named so_far.scans none_later one name renamed)) (λ may. inl refl)
           (told_by_its_tail watch so_far.moments file its_tail.tail looks_are its_tail.told);
       listed = is_listed;
       moment = inr (inl moment_noted_is);
       reopened = subst (AreReopened run file.opened (first_opening file) file.turned.history) (sym is_joined.alone) tt;
+      first_known = none_left file _ is_joined.stays;
+      later_known = none_left file _ is_joined.stays;
+      removed = not_removed file _ is_joined.stays;
     }
 
   -- ---- all of them
@@ -425,13 +435,18 @@ module _ {T W L D : Type 0} (words : Words T W L D) (start : Began D) (state : R
   known_at_once [] each = tt
   known_at_once (f ∷ some) each = (λ later. absurd (let first = each.0.known_is in omega (arith, first, later)), known_at_once some each.1)
 
+  -- each has a key of its own
+  pub files_apart : AreDistinct (map key_in files)
+  files_apart = keys_apart start.settings start.opening start.listed (files_keys_apart (flat_map keyed_by folder.asked) start.listed start.doubled has.parts) 0 files in_slots
+      (each_member (λ (file : Filed). IsOpenedAsListed start.settings start.opening start.listed file.opened) files as_listed)
+
+  pub all_known_at_once : AllByRecursion (λ (f : Filed). IsNewlyKnown run [] (following_of f)) files
+  all_known_at_once = known_at_once files joined.each
+
   pub are_followed_files : AreFollowedFiles run files
   are_followed_files = record {
     each = each_member (IsFollowedFile run) files is_followed;
     slots = in_slots;
-    keys_apart = keys_apart start.settings start.opening start.listed (files_keys_apart (flat_map keyed_by folder.asked) start.listed start.doubled has.parts) 0 files in_slots
-        (each_member (λ (file : Filed). IsOpenedAsListed start.settings start.opening start.listed file.opened) files as_listed);
-    newly_known = known_at_once files joined.each;
     openings_apart = openings_apart;
     openings_serve = each_opening;
   }

@@ -84,7 +84,7 @@ module _ {T W L D : Type 0} (words : Words T W L D) (start : Began D) (state : R
   abbrev notes : List Note
   notes = state.keeper.tracked.notes
 
-  has_done : HasDone folder.scanned folder.ended (files_of so_far)
+  has_done : HasDone start.settings folder.scanned folder.ended (files_of so_far)
   has_done = done words start state so_far stands released folder has shown wires
 
   abbrev the_scan : ToldScan
@@ -153,7 +153,7 @@ module _ {T W L D : Type 0} (words : Words T W L D) (start : Began D) (state : R
     since opening at = ((answered the_scan scan_told around_scan stands_around of.of of.among).placed opening at).0
 
     own : (opening : ℕ) → opening_by of.of.answer ≡ Some opening → IsOfNoOther run input opening
-    own opening at = subst (λ (i : ℕ). IsOfNoOther run i opening) of.input_is (of_its_input start folder has so_far has_done wires of.of of.among opening at)
+    own opening at = subst (λ (i : ℕ). IsOfNoOther run i opening) of.input_is (of_its_input start folder has so_far has_done (stands.files.scans.none_with_once has.once) wires of.of of.among opening at)
 
     -- ---- with no key
 
@@ -220,7 +220,7 @@ module _ {T W L D : Type 0} (words : Words T W L D) (start : Began D) (state : R
       is_gone opening behind gone = record {
         opening = opening;
         since = is_before the_scan scan_told around_scan stands_around opening (behind_listings opening behind);
-        of_input = of_no_asking start folder has so_far has_done wires opening input behind;
+        of_input = of_no_asking start folder has so_far has_done (stands.files.scans.none_with_once has.once) wires opening input behind;
         was = record { in_this_run = gone.in_this_run; not_there = gone.not_there ∙ ap (λ (path : List ℕ). Some (NotThere path)) its_path };
       }
 
@@ -230,7 +230,7 @@ module _ {T W L D : Type 0} (words : Words T W L D) (start : Began D) (state : R
       opened_with key opening behind opened = record {
         opening = opening;
         since = is_before the_scan scan_told around_scan stands_around opening (behind_listings opening behind);
-        of_input = of_no_asking start folder has so_far has_done wires opening input behind;
+        of_input = of_no_asking start folder has so_far has_done (stands.files.scans.none_with_once has.once) wires opening input behind;
         number = opened.number;
         looks = opened.gave.looks;
         tail = record {
@@ -366,6 +366,7 @@ module _ {T W L D : Type 0} (words : Words T W L D) (start : Began D) (state : R
     pub told_whole : IsToldWhole run scan notes file
     told_whole = record {
       alone = (is_joined words start state so_far stands released folder has shown wires file among).alone;
+      stays = (is_joined words start state so_far stands released folder has shown wires file among).stays;
       read_through = member_is (λ (turned : Turned). IsReadThrough turned.history) (files_in so_far) file.turned finished
           (is_joined words start state so_far stands released folder has shown wires file among).among;
       moment = record {

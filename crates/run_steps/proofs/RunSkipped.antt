@@ -1,15 +1,14 @@
 -- Each listed file of a run whose files were all begun is followed by the account, or was skipped for its reason.
 use Rattle.std.proofs.Common.{◌≡◌, ◌≢◌, ⊎_elim, ℕ, zero, suc, ◌+◌, All, List, [], ◌∷◌, append-nil, Contains, length, map, take, Option, Some, refl, sym, ap, subst, ◌∙◌, arith}
 use Rattle.std.proofs.lemmas.Bool.{cases_lt}
-use Rattle.std.proofs.lemmas.List.Elements.{Contains-append_cases, Contains-append_left}
 use Rattle.std.proofs.lemmas.Option.{slice_get_within}
 use Rattle.std.specs.Prelude.{flat_map, slice_get}
 use Rattle.accounts.proofs.Backing.{mapped_there}
 use Rattle.accounts.proofs.Grounded.{each_has_ground, of_map}
 use Rattle.accounts.specs.Accounted.{followed_tail}
 use Rattle.accounts.specs.Filed.{Filed, account_of, accounts_of, slot_in, tail_by}
-use Rattle.accounts.specs.Hidden.{Hidden, hidden_accounts, hidden_key, with_hidden}
-use Rattle.accounts.proofs.HiddenSlots.{each_hidden}
+use Rattle.accounts.specs.Hidden.{Hidden, hidden_key, with_hidden}
+use Rattle.accounts.proofs.HiddenSlots.{account_there, has_with_hidden}
 use Rattle.accounts.specs.Taken.{FitBooks, Taken, acknowledged_in}
 use Rattle.kept_rows.specs.Account.{Place, SlotAccount, key_of}
 use Rattle.kept_rows.specs.Run.{Run}
@@ -45,6 +44,7 @@ use Rattle.run_steps.proofs.RunNotes.{opened_is_in_notes}
 use Rattle.run_steps.proofs.RunServed.{file_of_begin}
 use Rattle.run_steps.proofs.SkippedFor.{skipped_still}
 use Rattle.accounts.proofs.Orderly.{member_is}
+use Rattle.accounts.proofs.Grounded.{each_member}
 
 pub listed_there : (listed : List Listed) (slot : ℕ) (one : Listed) → slice_get listed slot ≡ Some one → Contains listed one
 listed_there [] slot one at = absurd cc
@@ -96,7 +96,7 @@ module _ {T W L D : Type 0} (words : Words T W L D) (start : Began D) (state : R
       let its_path = path_is words start state so_far stands released folder has shown wires file there.among ∙ ap (λ (l : Listed). l.path) same in
       record {
         slot = account_of placed file;
-        of_account = Contains-append_left file_accounts (hidden_accounts so_far.hidden) (account_of placed file) (mapped_there (account_of placed) run_files file there.among);
+        of_account = account_there file_accounts so_far.hidden (account_of placed file) (mapped_there (account_of placed) run_files file there.among);
         number_is = there.slot_is;
         key_is = ap (λ (l : Listed). l.key) (sym same) ∙ listed.keyed;
         input_is = input_is words start state so_far stands released folder has shown wires file there.among ∙ ap (λ (l : Listed). l.input) same;
@@ -116,11 +116,11 @@ module _ {T W L D : Type 0} (words : Words T W L D) (start : Began D) (state : R
   -- each slot of its key is of a file that was begun
   of_files : (slot : ℕ) (one : Listed) → slice_get start.listed slot ≡ Some one → IsInAccount account one → IsInAccount file_accounts one
   of_files slot one at any =
-      ⊎_elim (λ here. (here.0, any.1, here.1, here.2, any.4))
-      (λ later. absurd
-      (member_is (λ (s : SlotAccount). one.key ≢ Some (key_of s)) (hidden_accounts so_far.hidden) any.1
-      (each_hidden (λ (s : SlotAccount). one.key ≢ Some (key_of s)) so_far.hidden (λ hidden there. not_hidden slot one at hidden there)) later any.4))
-      (Contains-append_cases file_accounts (hidden_accounts so_far.hidden) any.1 (any.0, any.2, any.3))
+      let here = member_is (λ (s : SlotAccount). one.key ≡ Some (key_of s) → Contains file_accounts s) account any.1
+      (has_with_hidden (λ (s : SlotAccount). one.key ≡ Some (key_of s) → Contains file_accounts s) file_accounts so_far.hidden
+      (each_member (λ (s : SlotAccount). one.key ≡ Some (key_of s) → Contains file_accounts s) file_accounts (λ s there keyed. there))
+      (λ hidden there keyed. absurd (not_hidden slot one at hidden there keyed))) (any.0, any.2, any.3) any.4 in
+      (here.0, any.1, here.1, here.2, any.4)
 
   begun_where_in_account : (slot : ℕ) (one : Listed) → slice_get start.listed slot ≡ Some one → IsInAccount file_accounts one → HasBegin notes slot
   begun_where_in_account slot one at in_account =

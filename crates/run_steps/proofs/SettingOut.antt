@@ -41,6 +41,7 @@ use Rattle.run_steps.specs.HiddenRows.{HidesBegun, TellsHidden}
 use Rattle.run_steps.specs.Met.{IsTelling}
 use Rattle.run_steps.specs.Outset.{Earlier, IsFirstKeeper, Outset, SetsOut, began_with}
 use Rattle.run_steps.specs.Ends.{Ending}
+use Rattle.run_steps.specs.Questions.{Questions}
 use Rattle.run_steps.specs.Releasing.{with_events}
 use Rattle.run_steps.specs.RunEnds.{HasEnded}
 use Rattle.run_steps.specs.RunOf.{FolderTold, starts_of, told_scan}
@@ -201,10 +202,10 @@ module _ {T W L D : Type 0} (words : Words T W L D) (reads : (disk : D) → IfSo
             by_result (Err what) (Ok files) all never are none_failed = absurd never
             by_result (Err what) (Err other) all same are none = absurd none
 
-        pub accounted : OneChoice → Covers → (passed : List Passing) → HasPassed result passed → (IsTelling met → AreAllBegun result) → Collects hid ending.keeper → hid.held ≡ None →
+        pub accounted : (then_asked : Questions) → OneChoice → Covers → (passed : List Passing) → HasPassed result passed → (IsTelling met → AreAllBegun result) → Collects hid ending.keeper → hid.held ≡ None →
             (events : List Event) → ending.shown ≡ with_events events new.folder.told → Pairs OutcomesGoOn (map words.wires.outcomes wires) (map words.wires.outcomes after) →
-            AccountedOver words.disks settings old.keeper.store.rows listed (length folder.scanned.events)
-            (ended_objects words start ending met left after has_ended folder has clock_tells wires_tell (map words.wires.outcomes wires) starts) met passed ending.keeper.shipped ending.keeper.dropped
-        accounted one covers passed has_passed told_where_begun collects none_held events then go_on =
-            ended_is_accounted_for words start ending met left after has_ended folder has clock_tells wires_tell (map words.wires.outcomes wires) starts one covers sets.gave passed
+            AccountedOver words.disks settings old.keeper.store.rows listed now.0 (length folder.scanned.events)
+            (ended_objects words start ending met left after has_ended folder has clock_tells wires_tell (map words.wires.outcomes wires) starts earlier.questions then_asked) met passed ending.keeper.shipped ending.keeper.dropped
+        accounted then_asked one covers passed has_passed told_where_begun collects none_held events then go_on =
+            ended_is_accounted_for words start ending met left after has_ended folder has clock_tells wires_tell (map words.wires.outcomes wires) starts earlier.questions then_asked one covers sets.gave passed
             (λ telling. served passed has_passed (told_where_begun telling) collects none_held events then) go_on

@@ -7,6 +7,7 @@ use Rattle.std.specs.Prelude.{slice_get}
 use Rattle.std.specs.List.{AllByRecursion}
 use Rattle.event_tree.specs.declared.input_rule.InputRule.{InputRule}
 use Rattle.event_tree.specs.declared.settings.Settings.{Settings}
+use Rattle.file_rows.specs.Removed.{IsRemoved}
 use Rattle.keeper.specs.Collecting.{Collects}
 use Rattle.keeper.specs.Keeping.{Keeping, held_in}
 use Rattle.kept_rows.proofs.Showing.{both}
@@ -27,12 +28,11 @@ use Rattle.run_steps.specs.BeginsAll.{BeginsAll, Came}
 use Rattle.run_steps.specs.Begun.{AreAllSeen, noted_begin}
 use Rattle.run_steps.specs.HiddenRows.{AreAllForgotten, TellsHidden, WasTold, hidden_notes}
 use Rattle.run_steps.specs.Releasing.{with_events}
-use Rattle.run_steps.specs.Removed.{IsRemoved}
 use Rattle.run_steps.specs.RunOf.{FolderTold}
 use Rattle.run_steps.specs.Served.{AreServed, AreServedFrom, HasBegin, WasSkippedBy, folder_trace}
 use Rattle.run_steps.specs.Telling.{TellMoments, TellsMoment, moment_noted}
 use Rattle.run_steps.proofs.FollowedOrSkipped.{each_then_so}
-use Rattle.run_steps.proofs.HiddenAmong.{hidden_slots, removed_is_hidden}
+use Rattle.run_steps.proofs.HiddenAmong.{each_is_hidden_of, hidden_slots, removed_is_hidden}
 use Rattle.told_scans.proofs.Members.{each_of}
 use Rattle.run_steps.proofs.Notes.{front_of_both}
 use Rattle.run_steps.proofs.RunNotes.{IsNoBegin}
@@ -194,6 +194,7 @@ module _ (inputs : List InputRule) (listed : List Listed) (rows : List Row) (old
       record {
         hidden = of.0;
         row_is = of.2;
+        starts = (each_is_hidden_of inputs listed (length listed) rows tells.hiddens of.0 tells.are of.1).starts;
         begun = on (hidden_begin of.0) told.0;
         forgotten = on (hidden_forget of.0) told.1;
       }

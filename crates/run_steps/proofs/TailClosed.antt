@@ -45,6 +45,8 @@ use Rattle.run_steps.specs.Releasing.{closing_of, with_events}
 use Rattle.run_steps.specs.ReadBehind.{ReadsBehind, ReadsWhereNoFault}
 use Rattle.run_steps.specs.RunState.{Finished, Halted, Leaving, OutOfEpochs, Phase, Reading, within}
 use Rattle.told_scans.specs.OnlyAsked.{IsNoListing, WasClosedWith, WasOnlyAsked}
+use Rattle.told_scans.proofs.ToldScans.{nothing_appended}
+use Rattle.run_steps.specs.LaterScans.{told_in}
 use Rattle.run_steps.specs.Shown.{HasDone, HasShown, IsStillOpen, WasOpenedSince, openings_of}
 use Rattle.run_steps.specs.SoFar.{FilesSoFar, Left, SoFar, books_of, files_in, files_of, files_within, notes_of}
 use Rattle.run_steps.specs.Stands.{AreEachOnce, Books, BooksNow, Files, FilesNow, HaveGiven, IsLeftRead, IsLeftSo, ReadsYet, watch_of}
@@ -141,7 +143,7 @@ module _ {T W L D : Type 0} (words : Words T W L D) (start : Began D) (moments :
   module _ (not_reading : phase ≢ Reading) where
     module _ (so_far : SoFar) (one : Harvester T) (old new : Readers T) (closes : ClosesTail words.tails one old new) (reads : Reads so_far old) where
       abbrev watch : Watch
-      watch = watch_of start
+      watch = watch_of start so_far.scans
 
       abbrev go : LetsGoAt one old.lanes new.lanes
       go = closes.lets_go
@@ -233,7 +235,7 @@ module _ {T W L D : Type 0} (words : Words T W L D) (start : Began D) (moments :
           (subst (λ (l : List Slot). Contains l file.slot) (sym (map-append (λ (t : Turned). t.slot) others (turned_in so_far.left)))
           (Contains-append_left (slots_of others) (slots_of (turned_in so_far.left)) file.slot there))
 
-      module _ (faults : ℕ) (first now : FolderHistory) (done : HasDone first now (files_of so_far)) where
+      module _ (faults : ℕ) (first now : FolderHistory) (done : HasDone start.settings first now (files_of so_far)) where
         abbrev events : Option TailHistory → List Event
         events tells = closing_of tells faults
 
@@ -301,12 +303,13 @@ module _ {T W L D : Type 0} (words : Words T W L D) (start : Began D) (moments :
               let one_file : its.is.opened ≡ other = one_opened so_far.opened its.is.opened other done.apart its.is.of_files among (sym of.opening ∙ same) in
               none_of_slot (subst (Contains (slots_of others)) (sym (its.is.is_told.slot ∙ ap (λ (o : Opened). o.begin.slot) one_file)) there))))
 
-          has_done : told ≡ tells → HasDone first (then_told tells) (files_of after)
+          has_done : told ≡ tells → HasDone start.settings first (then_told tells) (files_of after)
           has_done told_is = record {
             files = done.files;
             more = done.more ++ events tells;
             events = ap (λ (l : List Event). l ++ events tells) done.events ∙ append_assoc first.events done.more (events tells);
-            no_listing = all_append IsNoListing done.more (events tells) done.no_listing (no_listings tells);
+            scans = nothing_appended start.settings first (told_in so_far.scans) now (then_told tells) done.scans
+                (record { files = refl; more = events tells; events = refl; no_listing = no_listings tells });
             opened = each_member (WasOpenedSince first (then_told tells)) so_far.opened (λ opened there.
                 let of = member_is (WasOpenedSince first now) so_far.opened opened done.opened there in record {
                   since = of.since;
@@ -353,21 +356,21 @@ module _ {T W L D : Type 0} (words : Words T W L D) (start : Began D) (moments :
                 read_now now (events told) file.history.begin.base tail below faults still_open
                 (subst (λ (o : Option TailHistory). closing_in tail.opening (events o) ≡ Some (record { looks = tail.looks; faults = faults })) (sym is) (closes_its tail.opening tail.looks faults)) reads_it
 
-      has_shown : HasShown start.shown new.folder.told (files_of after)
+      has_shown : HasShown start.settings start.shown new.folder.told (files_of after)
       has_shown = by_case start.shown old.folder.told new.folder.told closes.closes.told reads.files.shown
         where
-          by_case : (first now then : Option FolderHistory) → then ≡ with_events (closing_of told (words.tails.faults one.tail)) now → HasShown first now (files_of so_far) → HasShown first then (files_of after)
+          by_case : (first now then : Option FolderHistory) → then ≡ with_events (closing_of told (words.tails.faults one.tail)) now → HasShown start.settings first now (files_of so_far) → HasShown start.settings first then (files_of after)
           by_case None now then is shown = is ∙ ap (with_events (closing_of told (words.tails.faults one.tail))) shown
           by_case (Some first) None then is shown = absurd shown
           by_case (Some first) (Some now) then is shown =
-              subst (λ (o : Option FolderHistory). HasShown (Some first) o (files_of after)) (sym is) (has_done (words.tails.faults one.tail) first now shown told its.is.is_told.tail refl)
+              subst (λ (o : Option FolderHistory). HasShown start.settings (Some first) o (files_of after)) (sym is) (has_done (words.tails.faults one.tail) first now shown told its.is.is_told.tail refl)
 
       -- behind each look at its length it was read, if it counted no fault
       its_read : IfSome told (λ (tail : TailHistory). words.tails.faults one.tail ≡ 0 → ReadsBehind false file.history.begin.base tail.looks) → ReadsYet phase → IsSome start.shown →
           IfSome new.folder.told (λ folder. AllByRecursion (IsLeftRead folder) (so_far.left ++ left_one ∷ []))
       its_read reads_so yet some = by_case start.shown old.folder.told new.folder.told closes.closes.told reads.files.shown some (reads.files.read yet some).in_left
         where
-          by_case : (first now then : Option FolderHistory) → then ≡ with_events (closing_of told (words.tails.faults one.tail)) now → HasShown first now (files_of so_far) → IsSome first →
+          by_case : (first now then : Option FolderHistory) → then ≡ with_events (closing_of told (words.tails.faults one.tail)) now → HasShown start.settings first now (files_of so_far) → IsSome first →
               IfSome now (λ folder. AllByRecursion (IsLeftRead folder) so_far.left) → IfSome then (λ folder. AllByRecursion (IsLeftRead folder) (so_far.left ++ left_one ∷ []))
           by_case None now then is shown some read = absurd cc
           by_case (Some first) None then is shown some read = absurd shown
@@ -425,6 +428,7 @@ module _ {T W L D : Type 0} (words : Words T W L D) (start : Began D) (moments :
           tell = λ some. each_kept one old.lanes new.lanes go (λ (h : Harvester T). IsSome (words.tails.told h.tail)) (reads.files.tell some);
           left_tell = λ some. each_last (λ (l : Left). IsSome l.told) so_far.left left_one (reads.files.left_tell some)
               (one_was one old.lanes new.lanes go (λ (h : Harvester T). IsSome (words.tails.told h.tail)) (reads.files.tell some));
+          scans = reads.files.scans;
           shown = has_shown;
           given = reads.files.given;
         };

@@ -47,6 +47,7 @@ module _ {T W L D : Type 0} (words : Words T W L D) where
     tell = files.tell;
     left_tell = files.left_tell;
     shown = files.shown;
+    scans = files.scans;
     given = files.given;
   }
     where
@@ -98,6 +99,7 @@ module _ {T W L D : Type 0} (words : Words T W L D) where
         tell = stands.files.tell;
         left_tell = stands.files.left_tell;
         shown = stands.files.shown;
+        scans = stands.files.scans;
         given = stands.files.given;
       };
       books = stands.books;

@@ -1,14 +1,14 @@
 -- A run that served each entry of its scan has taken up each that it did not pass over; so the key of each has a row, or lost it rightly.
 use Rattle.std.proofs.Common.{◌≡◌, ◌⊎◌, inl, inr, ℕ, List, Contains, map, Option, Some, refl}
-use Rattle.std.proofs.lemmas.List.Elements.{Contains-append_left}
 use Rattle.std.specs.Prelude.{slice_get}
 use Rattle.std.specs.List.{AllByRecursion}
 use Rattle.accounts.proofs.Backing.{mapped_there}
+use Rattle.accounts.proofs.HiddenSlots.{account_there}
 use Rattle.accounts.proofs.Orderly.{member_is}
 use Rattle.accounts.specs.Accounted.{followed_tail}
 use Rattle.accounts.specs.AccountedFor.{HasItsRow}
 use Rattle.accounts.specs.Filed.{Filed, account_of, accounts_of, tail_by}
-use Rattle.accounts.specs.Hidden.{Hidden, hidden_accounts, with_hidden}
+use Rattle.accounts.specs.Hidden.{Hidden, with_hidden}
 use Rattle.accounts.specs.RunDone.{EachEntryIsServed, IsAmongFiles}
 use Rattle.event_tree.specs.declared.input_rule.InputRule.{InputRule}
 use Rattle.kept_rows.specs.Account.{Place, SlotAccount, key_of}
@@ -31,7 +31,7 @@ module _ (run : Run) (scan : Scan) (files : List Filed) (hiddens : List Hidden) 
   taken_up shown input among = record {
     number = among.number;
     one = account_of placed among.file;
-    of_account = Contains-append_left (accounts_of placed files) (hidden_accounts hiddens) (account_of placed among.file)
+    of_account = account_there (accounts_of placed files) hiddens (account_of placed among.file)
         (mapped_there (account_of placed) files among.file among.of_files);
     shows = among.shows;
     tail = followed_tail among.file.opened among.file.looks among.file.turned.history;

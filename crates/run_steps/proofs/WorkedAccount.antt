@@ -57,8 +57,8 @@ later = record { files = worked.file ∷ []; events = worked.trace.events }
 
 abbrev pub objects : RunObjects Holding
 objects = record {
-  before = record { folder = Some earlier; moments = Some []; outcomes = Some [] ∷ []; a = blank; b = blank };
-  after = record { folder = Some later; moments = Some (0 ∷ []); outcomes = Some (Finished worked.talk 0 0 ∷ []) ∷ []; a = stored; b = blank };
+  before = record { folder = Some earlier; moments = Some []; questions = record { clock = 0; bell = 0; given = 0 }; outcomes = Some [] ∷ []; a = blank; b = blank };
+  after = record { folder = Some later; moments = Some (0 ∷ []); questions = record { clock = 2; bell = 1; given = 1 }; outcomes = Some (Finished worked.talk 0 0 ∷ []) ∷ []; a = stored; b = blank };
 }
 
 abbrev pub account : List SlotAccount

@@ -1,8 +1,10 @@
 -- A clock that was asked long before a run and gives the run one later moment: this is the only one of the run, so that nothing of it lies
--- apart. Where the run's first moment is the one that the clock had given last, the clock told nothing then, and both are of the run.
-use Rattle.std.proofs.Common.{◌≡◌, inl, inr, ℕ, List, [], ◌∷◌, Some, refl}
+-- apart. Where the run's first moment is the one that the clock had given last, the clock told nothing then, and both are of the run; but not
+-- where the clock was asked only once in the run.
+use Rattle.std.proofs.Common.{◌≡◌, inl, inr, ℕ, List, [], ◌∷◌, Some, refl, lit<, arith}
 use Rattle.outside.specs.Times.{EndsWith}
 use Rattle.run_steps.specs.AccountedFor.{AreMomentsSince, BeginWith}
+use Rattle.run_steps.specs.Questions.{WasAskedFor}
 
 abbrev before : List ℕ
 before = 0 ∷ []
@@ -31,3 +33,21 @@ left_out_is_refused (inr since) = let q : [] ≡ since.first ∷ since.later = s
 -- a run that asked nothing has no moment
 unasked : AreMomentsSince (Some before) (Some before) []
 unasked = inl (refl, refl)
+
+-- ---- how often it was asked, where it had been asked once before
+
+-- once in the run, for the later moment
+asked_once : WasAskedFor 1 2 (60_000 ∷ [])
+asked_once few = omega arith
+
+-- and not for both
+not_asked_for_both : WasAskedFor 1 2 after → ⊥
+not_asked_for_both asked = let most = asked (lit< tt) in omega (arith, most)
+
+-- twice, so that it may have given the earlier one again
+asked_twice : WasAskedFor 1 3 after
+asked_twice few = omega arith
+
+-- a count at its end says nothing
+saturated : WasAskedFor 0 18_446_744_073_709_551_615 after
+saturated few = omega (arith, few)

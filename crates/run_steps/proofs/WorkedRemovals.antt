@@ -3,11 +3,11 @@ use Rattle.std.proofs.Common.{◌≡◌, ◌⊎◌, ℕ, zero, suc, ◌<◌, tru
 use Rattle.std.specs.Prelude.{Any, IsSome}
 use Rattle.std.proofs.lemmas.List.Elements.{All-cons, All-head, All-nil}
 use Rattle.event_tree.specs.declared.input_rule.InputRule.{InputRule}
+use Rattle.file_rows.specs.Removed.{IsCleaned, IsListedKey, IsRemoved}
 use Rattle.kept_rows.specs.Followed.{IsKeyOf}
 use Rattle.prospect.specs.declared.listed.Listed.{Listed}
 use Rattle.wire_base.specs.declared.row.Row.{Row}
 use Rattle.run_steps.specs.HiddenRows.{AreHiddenAmong, hidden_as}
-use Rattle.run_steps.specs.Removed.{IsCleaned, IsListedKey, IsRemoved}
 
 abbrev row : List ℕ → Row
 row key = record { key = key; path = codes "/w"; epoch = record { 0 = 0 }; offset = 5; changed = record { 0 = 0 } }

@@ -32,6 +32,7 @@ use Rattle.wire_base.specs.declared.row.Row.{Row}
 use Rattle.run_steps.specs.Areas.{GiveTheRows}
 use Rattle.told_scans.specs.FolderOn.{FolderGoesOn}
 use Rattle.run_steps.specs.Met.{AreLeft, IsTelling}
+use Rattle.run_steps.specs.Questions.{Questions}
 use Rattle.run_steps.specs.ReadBehind.{HasReadBehind}
 use Rattle.run_steps.specs.RunOf.{wires_behind}
 use Rattle.run_steps.specs.WireOn.{OutcomesGoOn}
@@ -43,10 +44,12 @@ use Rattle.run_steps.specs.declared.met.Met.TheVariants.{Done, Stopped}
 
 -- ---- the run that it is
 
--- what the objects of a run tell at one moment: its folder, its clock, each wire of its outcomes, and the areas
+-- what the objects of a run tell at one moment: its folder, its clock, how often clock and bell were asked, each wire of its outcomes, and the
+-- areas
 pub record Objects (D : Type 0) : Type 0 where
   pub folder : Option FolderHistory
   pub moments : Option (List ℕ)
+  pub questions : Questions
   pub outcomes : List (Option (List Outcome))
   pub a : D
   pub b : D

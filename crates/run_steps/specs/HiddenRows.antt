@@ -6,13 +6,15 @@ use Rattle.std.specs.BTreeSet.{BTreeSet}
 use Rattle.std.specs.List.{AllByRecursion, flat_map}
 use Rattle.accounts.specs.Hidden.{Hidden, hidden_begin, hidden_forget}
 use Rattle.event_tree.specs.declared.input_rule.InputRule.{InputRule}
+use Rattle.file_rows.specs.Removed.{IsCleaned, IsCleanedBeside, IsRemoved}
+use Rattle.kept_rows.specs.Followed.{start_unlisted}
 use Rattle.keeper.specs.Keeping.{Keeping}
 use Rattle.prospect.specs.declared.listed.Listed.{Listed}
 use Rattle.ship_core.specs.Rows.{IsInOrder}
 use Rattle.wire_base.specs.declared.note.Note.{Note}
+use Rattle.wire_base.specs.declared.numbers.Slot.{Slot}
 use Rattle.wire_base.specs.declared.row.Row.{Row}
 use Rattle.run_steps.specs.KnownKeys.{KnowsAmong}
-use Rattle.run_steps.specs.Removed.{IsCleaned, IsCleanedBeside, IsRemoved}
 use Rattle.run_steps.specs.Telling.{TellsNotes}
 use Rattle.run_steps.specs.declared.begin_error.BeginError.{BeginError}
 use Rattle.run_steps.specs.declared.begin_error.BeginError.TheVariants.{NoMemory}
@@ -20,7 +22,11 @@ use Rattle.run_steps.specs.declared.beginning.BegunFiles.{BegunFiles}
 
 -- the slot and the row, with the numbers of an input that cleans it, and of the scan that hides it, the first one
 abbrev pub hidden_as : (inputs : List InputRule) → ℕ → (row : Row) → IsCleaned inputs row.key → Hidden
-hidden_as inputs slot row cleaned = record { slot = record { 0 = slot }; row = row; input = cleaned.0; hidden_by = 0 }
+hidden_as inputs slot row cleaned = record { slot = record { 0 = slot }; row = row; input = cleaned.0; start = start_unlisted row; hidden_by = 0 }
+
+-- the same, of whichever input it is
+abbrev pub going_by : Slot → Row → Hidden
+going_by slot row = record { slot = slot; row = row; input = 0; start = start_unlisted row; hidden_by = 0 }
 
 module _ (inputs : List InputRule) (listed : List Listed) where
   -- the row goes, and then of the rest
@@ -73,10 +79,11 @@ HidesBegun inputs listed (Ok files) (Err what) old new = (what ≡ NoMemory) × 
 HidesBegun inputs listed (Err what) (Ok files) old new = ⊥
 HidesBegun inputs listed (Err what) (Err other) old new = (other ≡ what) × (new ≡ old)
 
--- the row was told of so
+-- the row was told of so: its slot begins where it stood
 pub record WasTold (notes : List Note) (row : Row) : Type 0 where
   pub hidden : Hidden
   pub row_is : hidden.row ≡ row
+  pub starts : hidden.start ≡ start_unlisted hidden.row
   pub begun : Contains notes (hidden_begin hidden)
   pub forgotten : Contains notes (hidden_forget hidden)
 

@@ -10,6 +10,7 @@ use Rattle.rounds.specs.declared.storing.Storing.{Storing}
 use Rattle.run_steps.specs.AccountedFor.{RunObjects}
 use Rattle.run_steps.specs.Ends.{Ending}
 use Rattle.run_steps.specs.Outset.{Earlier, Outset}
+use Rattle.run_steps.specs.Questions.{questions_of}
 use Rattle.run_steps.specs.RunOf.{FolderTold}
 use Rattle.run_steps.specs.RunState.{Phase}
 use Rattle.run_steps.specs.Worked.{Tolls}
@@ -46,12 +47,13 @@ ending_of folder clock storing around phase = record {
 }
 
 -- what they tell before and after it
-abbrev pub objects_of : {F T W L D K B : Type 0} → FolderGhosts F T → ClockGhosts K → WireGhosts W L → FolderTold → Earlier D →
+abbrev pub objects_of : {F T W L D K B : Type 0} → FolderGhosts F T → ClockGhosts K → BellGhosts B → WireGhosts W L → FolderTold → Earlier D →
     Surroundings F W K B → Storing D → Surroundings F W K B → RunObjects D
-objects_of folder clock wire told earlier before storing after = record {
+objects_of folder clock bell wire told earlier before storing after = record {
   before = record {
     folder = Some told.earlier;
     moments = earlier.moments;
+    questions = earlier.questions;
     outcomes = map wire.outcomes before.wires.now.items;
     a = earlier.a;
     b = earlier.b;
@@ -59,6 +61,7 @@ objects_of folder clock wire told earlier before storing after = record {
   after = record {
     folder = folder.told after.folder.now;
     moments = clock.moments after.clock.now;
+    questions = questions_of clock bell after.clock.now after.bell.now;
     outcomes = map wire.outcomes after.wires.now.items;
     a = storing.a.now;
     b = storing.b.now;

@@ -22,6 +22,7 @@ pub mod HiddenRows
 pub mod KnownKeys
 pub mod LastEpoch
 pub mod LastSteps
+pub mod LaterScans
 pub mod Lent
 pub mod Met
 pub mod MetBy
@@ -35,7 +36,6 @@ pub mod Readiness
 pub mod Registry
 pub mod RegistryErrors
 pub mod Releasing
-pub mod Removed
 pub mod RunEnds
 pub mod RunOf
 pub mod RunState

@@ -1,6 +1,6 @@
 -- How a run scanned (this project's profile), in the words of the scan's own contracts: settings within their ranges, what its listings
--- told, what asking the listed files for their keys came to, and which of those with a key are followed.
-use Rattle.std.specs.Prelude.{◌≡◌, All, List, Some, flat_map, map}
+-- told, what asking the listed files for their keys came to, and which of those with a key are followed; and that it makes no other scan.
+use Rattle.std.specs.Prelude.{◌≡◌, true, All, List, Some, flat_map, map}
 use Rattle.beat_config.specs.InRange.{AreInRange}
 use Rattle.prospect.specs.AskedFiles.{AskedFile, AsksFrom, keyed_by}
 use Rattle.prospect.specs.Doubled.{PartsDoubled}
@@ -11,6 +11,7 @@ use Rattle.run_steps.specs.RunOf.{FolderTold}
 
 pub record HasScanned {D : Type 0} (start : Began D) (folder : FolderTold) : Type 0 where
   pub in_range : AreInRange start.settings
+  pub once : start.once ≡ true
   pub shown : start.shown ≡ Some folder.scanned
   pub all : List Listed
   pub scans : ScansFiles start.settings.inputs folder.earlier all (Some folder.listed)

@@ -1,14 +1,17 @@
--- What a run does with the folder behind its scan (this project's profile): it opens files and closes them, and lists nothing more.
+-- What a run does with the folder after its first scan (this project's profile): it opens files and closes them, and scans again.
 -- Each opening is of a file that was begun, or its tail was closed when it had been asked for its key, or unread.
 use Rattle.std.specs.Prelude.{◌≡◌, ◌⊎◌, ℕ, suc, ◌≤◌, drop, List, [], ◌∷◌, ◌++◌, Contains, length, map, slice_get, Option, Some, None, IfSome}
 use Rattle.std.specs.List.{AllByRecursion, flat_map}
 use Rattle.accounts.specs.Opened.{Opened as OpenedFile}
+use Rattle.event_tree.specs.declared.settings.Settings.{Settings}
 use Rattle.kept_rows.specs.Scans.{AreDistinct, StandInOrder}
 use Rattle.kept_rows.specs.Trace.{closing_in}
 use Rattle.outside.specs.Folders.{Event, FolderHistory, Opened}
 use Rattle.outside.specs.Times.{EndsWith}
 use Rattle.outside.specs.declared.history.Sight.{Sight}
-use Rattle.told_scans.specs.OnlyAsked.{IsNoListing, WasClosedWith, WasOnlyAsked}
+use Rattle.told_scans.specs.OnlyAsked.{WasClosedWith, WasOnlyAsked}
+use Rattle.told_scans.specs.ToldScans.{AreToldFrom}
+use Rattle.run_steps.specs.LaterScans.{told_in}
 use Rattle.run_steps.specs.SoFar.{FilesSoFar, Left}
 
 abbrev pub IsStillOpen : FolderHistory → ℕ → Type 0
@@ -27,11 +30,12 @@ openings_of files = map (λ one. one.opening) files
 abbrev pub IsTurnedIn : FilesSoFar → OpenedFile → Type 0
 IsTurnedIn so_far one = Contains (map (λ turned. turned.slot) (flat_map (λ turned. turned) so_far.lanes)) one.begin.slot
 
-pub record HasDone (before after : FolderHistory) (so_far : FilesSoFar) : Type 0 where
+pub record HasDone (settings : Settings) (before after : FolderHistory) (so_far : FilesSoFar) : Type 0 where
   pub files : after.files ≡ before.files
   pub more : List Event
   pub events : after.events ≡ before.events ++ more
-  pub no_listing : AllByRecursion IsNoListing more
+  -- all that it listed since was for its later scans
+  pub scans : AreToldFrom settings before (told_in so_far.scans) after
   pub opened : AllByRecursion (WasOpenedSince before after) so_far.opened
   pub apart : AreDistinct (openings_of so_far.opened)
   pub serve : (opening : ℕ) (path : List ℕ) (number : ℕ) (begun : Sight) → length before.events ≤ opening →
@@ -39,10 +43,10 @@ pub record HasDone (before after : FolderHistory) (so_far : FilesSoFar) : Type 0
   pub closed : AllByRecursion (λ (one : Left). IfSome one.told (λ tail. WasClosedWith after tail.opening tail.looks)) so_far.left
   pub still_open : (one : OpenedFile) → Contains so_far.opened one → IsTurnedIn so_far one → IsStillOpen after one.opening
 
-abbrev pub HasShown : Option FolderHistory → Option FolderHistory → FilesSoFar → Type 0
-HasShown None after so_far = after ≡ None
-HasShown (Some before) None so_far = ⊥
-HasShown (Some before) (Some after) so_far = HasDone before after so_far
+abbrev pub HasShown : Settings → Option FolderHistory → Option FolderHistory → FilesSoFar → Type 0
+HasShown settings None after so_far = after ≡ None
+HasShown settings (Some before) None so_far = ⊥
+HasShown settings (Some before) (Some after) so_far = HasDone settings before after so_far
 
 -- ---- the clock
 

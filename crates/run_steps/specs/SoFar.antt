@@ -9,6 +9,7 @@ use Rattle.outside.specs.Tails.{TailHistory}
 use Rattle.rounds.specs.Books.{Told}
 use Rattle.wire_base.specs.declared.note.Note.{Note}
 use Rattle.wire_base.specs.declared.parcel.Parcel.{Parcel}
+use Rattle.run_steps.specs.LaterScans.{LaterScan}
 
 -- a file whose tail was closed, with what that tail told then
 pub record Left : Type 0 where
@@ -18,6 +19,8 @@ pub record Left : Type 0 where
 pub record SoFar : Type 0 where
   -- the moments that the clock gave since the run began, the last one before it with them
   pub moments : List ℕ
+  -- the scans that it made after its first one
+  pub scans : List LaterScan
   -- the files of which the keeper was told, by their slots
   pub opened : List Opened
   -- and the hidden rows of which it was told, by their slots behind those
@@ -39,12 +42,13 @@ pub record SoFar : Type 0 where
 -- the files
 pub record FilesSoFar : Type 0 where
   pub moments : List ℕ
+  pub scans : List LaterScan
   pub opened : List Opened
   pub lanes : List (List Turned)
   pub left : List Left
 
 abbrev pub files_of : SoFar → FilesSoFar
-files_of so_far = record { moments = so_far.moments; opened = so_far.opened; lanes = so_far.lanes; left = so_far.left }
+files_of so_far = record { moments = so_far.moments; scans = so_far.scans; opened = so_far.opened; lanes = so_far.lanes; left = so_far.left }
 
 -- all of which something may have been told
 abbrev pub files_within : FilesSoFar → List Turned

@@ -8,7 +8,7 @@ use Rattle.accounts.specs.ToldFile.{IsReadThrough, IsToldFile}
 use Rattle.accounts.specs.ToldNotes.{AreMixed}
 use Rattle.accounts.specs.Turned.{Turned, notes_told, parcels_told, spans_in}
 use Rattle.accounts.specs.Turning.{IsTurnedSo, Pairs}
-use Rattle.accounts.specs.Watch.{Name, Watch}
+use Rattle.accounts.specs.Watch.{Watch}
 use Rattle.harvester.specs.declared.stage.Stage.TheVariants.{Over}
 use Rattle.keeper.specs.Collecting.{is_dropped, is_shipped}
 use Rattle.keeper.specs.Keeping.{Keeping, held_in}
@@ -30,6 +30,7 @@ use Rattle.run_steps.specs.Began.{Began}
 use Rattle.run_steps.specs.Begun.{AreBeginNotes, AreSlotsFrom, IsKeyed, IsOpenedAsListed}
 use Rattle.run_steps.specs.HiddenRows.{AreHiddenSoFar}
 use Rattle.run_steps.specs.LastEpoch.{HaveOneOver}
+use Rattle.run_steps.specs.LaterScans.{AreLaterScans, LaterScan, WasMissed, WasNamed}
 use Rattle.run_steps.specs.ReadBehind.{ReadsBehind, ReadsWhereNoFault}
 use Rattle.run_steps.specs.RunState.{Finished, Halted, Leaving, OutOfEpochs, Phase, Reading, RunState}
 use Rattle.run_steps.specs.Shown.{HasGiven, HasShown}
@@ -37,9 +38,9 @@ use Rattle.run_steps.specs.SoFar.{BooksSoFar, FilesSoFar, Left, NotesSoFar, SoFa
 
 -- ---- the files
 
--- how the run watches them: of none of them is told that it was removed or renamed
-abbrev pub watch_of : {D : Type 0} → Began D → Watch
-watch_of start = record { processors = start.settings.processors; once = start.once; removed = λ (opened : Opened). ⊥; renamed = λ (opened : Opened) (name : Name). ⊥ }
+-- how the run watches them: by its later scans
+abbrev pub watch_of : {D : Type 0} → Began D → List LaterScan → Watch
+watch_of start scans = record { processors = start.settings.processors; once = start.once; removed = WasMissed scans; renamed = WasNamed scans }
 
 -- a lane's harvesters stand for these files, one by one
 abbrev pub AreTurnedIn : {T : Type 0} → TailWords T → Watch → List Opened → List ℕ → List Turned → Laning T → Type 0
@@ -116,8 +117,8 @@ pub record Files {T D : Type 0} (tails : TailWords T) (start : Began D) (now : F
   pub opened : AllByRecursion (IsOpenedAsListed start.settings start.opening start.listed) so_far.opened
   pub keyed : IsSome start.shown → AllByRecursion IsKeyed so_far.opened
   pub each_once : AreEachOnce so_far.opened (files_within so_far)
-  pub turned : Pairs (AreTurnedIn tails (watch_of start) so_far.opened so_far.moments) so_far.lanes now.lanes
-  pub left : AllByRecursion (IsLeftSo (watch_of start) so_far.opened so_far.moments) so_far.left
+  pub turned : Pairs (AreTurnedIn tails (watch_of start so_far.scans) so_far.opened so_far.moments) so_far.lanes now.lanes
+  pub left : AllByRecursion (IsLeftSo (watch_of start so_far.scans) so_far.opened so_far.moments) so_far.left
   pub reading : now.phase ≡ Reading → IsReading now.lanes so_far
   pub finished : now.phase ≡ Finished → IsSome start.shown → AllByRecursion (λ turned. IsReadThrough turned.history) (files_within so_far)
   pub over : HaveOneOver now.phase (files_within so_far)
@@ -125,7 +126,8 @@ pub record Files {T D : Type 0} (tails : TailWords T) (start : Began D) (now : F
   -- where the folder tells, so do the tails
   pub tell : IsSome start.shown → AllByRecursion (TellIn tails) now.lanes
   pub left_tell : IsSome start.shown → AllByRecursion (λ (one : Left). IsSome one.told) so_far.left
-  pub shown : HasShown start.shown now.shown so_far
+  pub scans : AreLaterScans start so_far.moments so_far.scans
+  pub shown : HasShown start.settings start.shown now.shown so_far
   pub given : HasGiven start.moments now.moments start.moment so_far.moments
 
 -- lanes and workers, and what the keeper's pass collected

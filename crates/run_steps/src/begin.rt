@@ -1,4 +1,4 @@
-ghost use Rattle.std.specs.Prelude.{◌≡◌, ◌∷◌, ◌++◌, ◌%◌, ◌<◌, ◌≤◌, ◌↔◌, [], IfErr, IfOk, IsTrue, OnErr, OnOk, Some, length};
+ghost use Rattle.std.specs.Prelude.{◌≡◌, ◌∷◌, ◌++◌, ◌%◌, ◌<◌, ◌≤◌, [], IfErr, IfOk, OnErr, OnOk, length};
 ghost use Rattle.beat_config.specs.InRange.{AreInRange};
 ghost use Rattle.prospect.specs.ListedFiles.{IsListedInRange};
 ghost use Rattle.rounds.specs.Crewed.{lanings};
@@ -14,6 +14,7 @@ use crate::leave::release;
 use crate::opening::{Opening, begin_of};
 use crate::telling::tell_begin;
 use file_identity::{Identity, IdentityError, opened_key};
+use file_rows::is_same_key;
 use harvester::Harvester;
 use keeper::Keeper;
 use outside::{Folder, FolderError, Link, Tail, Wire};
@@ -21,7 +22,7 @@ use prospect::Listed;
 use report::{Passing, Why};
 use rounds::Crew;
 use std::alloc::Global;
-use wire_base::{NoMemory, Slot, Text};
+use wire_base::{NoMemory, Slot};
 
 /// What comes of a listed file.
 #[derive(Clone, Copy, Debug, PartialEq, Eq)]
@@ -121,21 +122,12 @@ fn ask_key<T: Tail>(
         &listed.path,
         tail,
     ) {
-        Ok(Identity::Key(key)) if is_same(&listed.key, &key) => Ok(None),
+        Ok(Identity::Key(key)) if is_same_key(&listed.key, &key) => Ok(None),
         Ok(Identity::Key(_)) => Ok(Some(Admission::Skipped(Why::Moved))),
         Ok(Identity::TooSmall(_)) => Ok(Some(Admission::Skipped(Why::Small))),
         Err(IdentityError::NoNative) => Err(BeginError::NoNative(opening.slot)),
         Err(IdentityError::ReadFault) => Ok(Some(Admission::Failed)),
         Err(IdentityError::NoMemory) => Err(BeginError::NoMemory),
-    }
-}
-
-fn is_same(listed: &Option<Text>, key: &Text) -> bool
-    ensures { IsTrue result ↔ listed.now ≡ Some key.now }
-{
-    match listed {
-        Some(listed) => *listed == *key,
-        None => false,
     }
 }
 

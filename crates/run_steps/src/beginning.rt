@@ -7,7 +7,6 @@ ghost use Rattle.run_steps.specs.Beginnable.{AreBeginnable};
 ghost use Rattle.run_steps.specs.Beginning.{beginning, file_of};
 ghost use Rattle.run_steps.specs.BeginsAll.{BeginsAll, BeginsFrom, BeginsOrPasses, BeginsSome, Came, EndsBeginning, EndsInFiles, EndsInOne, IsOfInputs, KeepsOthers, both_came, came_of};
 ghost use Rattle.run_steps.specs.KnownKeys.{HasRoomToBegin};
-ghost use Rattle.run_steps.specs.Starting.{AreFewFiles, starts_among};
 ghost use Rattle.run_steps.specs.Unnumbered.{IsMetUnnumbered};
 ghost use Rattle.rounds.specs.WordsOf.{tails_of};
 

@@ -1,18 +1,18 @@
 ghost use Rattle.std.specs.Prelude.{◌≡◌, ◌⊎◌, ◌<◌, ◌≤◌, ◌∷◌, [], IfOk, OnErr, OnOk, length};
 ghost use Rattle.accounts.specs.Hidden.{hidden_begin, hidden_forget};
+ghost use Rattle.file_rows.specs.Removed.{HasListedKeys, SomeMayGo};
 ghost use Rattle.keeper.specs.FewKeys.{HasRoomFor};
 ghost use Rattle.ship_core.specs.Rows.{IsInOrder};
 ghost use Rattle.wire_base.specs.Ranges.{IsRow};
-ghost use Rattle.run_steps.specs.HiddenRows.{BeginsOrNothing, HidesBegun, IsGoingRow, KnowsItsKeys, RowAt, TellsHidden, TellsOrLeaves, TellsSomeHidden};
-ghost use Rattle.run_steps.specs.Removed.{HasListedKeys, SomeMayGo};
+ghost use Rattle.run_steps.specs.HiddenRows.{BeginsOrNothing, HidesBegun, IsGoingRow, KnowsItsKeys, RowAt, TellsHidden, TellsOrLeaves, TellsSomeHidden, going_by};
 ghost use Rattle.run_steps.specs.Telling.{TellsNotes};
 
 use crate::begin_error::BeginError;
 use crate::beginning::{BegunFiles, Scanned};
 use crate::context::Context;
-use crate::keys::{is_cleaned, listed_keys, some_may_go};
 use crate::telling::tell;
 use event_tree::InputRule;
+use file_rows::{goes, listed_keys, some_may_go};
 use keeper::Keeper;
 use prospect::Listed;
 use ship_core::Rows;
@@ -134,7 +134,7 @@ fn going_row(
 ) -> Result<Option<Row>, NoMemory>
     ensures { IfOk result (IsGoingRow inputs.now keys.now row.now) }
 {
-    if is_cleaned(inputs, &row.key) && !keys.contains(&row.key) {
+    if goes(inputs, keys, &row.key) {
         return Ok(Some(row.copy(alloc)?));
     }
     Ok(None)
@@ -144,13 +144,11 @@ fn going_row(
 fn tell_row(alloc: Global, slot: Slot, row: Row, keeper: &mut Keeper) -> Result<(), NoMemory>
     requires in_range { IsRow row }
     requires few { HasRoomFor keeper.old.store.rows keeper.old.tracked
-        (hidden_begin (record { slot = slot; row = row; input = 0; hidden_by = 0 })) }
+        (hidden_begin (going_by slot row)) }
     ensures told { OnOk result (TellsNotes
-        (hidden_begin (record { slot = slot; row = row; input = 0; hidden_by = 0 })
-        ∷ hidden_forget (record { slot = slot; row = row; input = 0; hidden_by = 0 }) ∷ [])
+        (hidden_begin (going_by slot row) ∷ hidden_forget (going_by slot row) ∷ [])
         keeper.old keeper.new) }
-    ensures begun { OnErr result (TellsNotes
-        (hidden_begin (record { slot = slot; row = row; input = 0; hidden_by = 0 }) ∷ [])
+    ensures begun { OnErr result (TellsNotes (hidden_begin (going_by slot row) ∷ [])
         keeper.old keeper.new
         ⊎ (keeper.new ≡ keeper.old)) }
 {

@@ -12,7 +12,6 @@ mod context;
 mod crew;
 mod follow;
 mod hidden;
-mod keys;
 mod laws;
 mod leave;
 mod met;

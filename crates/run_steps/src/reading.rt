@@ -1,4 +1,4 @@
-ghost use Rattle.std.specs.Prelude.{◌≡◌, ◌≢◌, ◌⊎◌, ◌^◌, ◌-◌, ◌≤◌, ◌||◌, Bool, None, IfErr, IfNone, IfOk, IfSome, Some, false, length, true};
+ghost use Rattle.std.specs.Prelude.{◌≡◌, ◌≢◌, ◌⊎◌, ◌^◌, ◌-◌, ◌+◌, ◌≤◌, ◌||◌, Bool, None, IfErr, IfNone, IfOk, IfSome, Some, false, length, true};
 ghost use Rattle.outside.specs.Counts.{Rose, next_count};
 ghost use Rattle.rounds.specs.Crewed.{lanings};
 ghost use Rattle.rounds.specs.Crewing.{crewing};
@@ -9,7 +9,7 @@ ghost use Rattle.run_steps.specs.Goes.{Goes, step_words, stop_at};
 ghost use Rattle.run_steps.specs.Met.{IsTelling};
 ghost use Rattle.run_steps.specs.MetBy.{HasFaults, HasMetFault, IsEndedBy, IsEndedRound, IsMetBy, SomeHarvester, WasStopped, phase_after, phase_met, phase_reading, since_of};
 ghost use Rattle.run_steps.specs.MetIn.{NoneFailed, read_by};
-ghost use Rattle.run_steps.specs.Questions.{AsksOn, questions_of};
+ghost use Rattle.run_steps.specs.Questions.{AsksOn, count_given, questions_of};
 ghost use Rattle.run_steps.specs.Readiness.{IsReadyIn};
 ghost use Rattle.run_steps.specs.declared.met.Met.TheVariants.{FolderFault, Stopped};
 
@@ -63,6 +63,8 @@ where
         (NoneFailed context.entry.settings.now.output.attempts crew.new.carriers.items) }
     ensures asks_the_clock { K.questions system.new.clock.now
         ≡ next_count (K.questions system.old.clock.now) }
+    ensures gives_one_moment { count_given (K.moments system.new.clock.now)
+        ≤ count_given (K.moments system.old.clock.now) + 1 }
     ensures bell_kept { system.new.bell.now ≡ system.old.bell.now }
     ensures folder_kept { system.new.folder.now ≡ system.old.folder.now }
 {
@@ -125,6 +127,8 @@ where
         (since_of F.Folder storing.old system.old (crewing crew.new storing.new) system.new)) }
     ensures asks_the_clock { K.questions system.new.clock.now
         ≡ next_count (K.questions system.old.clock.now) }
+    ensures gives_one_moment { count_given (K.moments system.new.clock.now)
+        ≤ count_given (K.moments system.old.clock.now) + 1 }
     ensures bell_kept { system.new.bell.now ≡ system.old.bell.now }
 {
     let met = make_round(rt, context, crew, storing, system);

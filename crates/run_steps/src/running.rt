@@ -82,19 +82,19 @@ where
         (drop context.entry.settings.now.output.workers outset.wires) around.new.wires.now.items) }
     // If the scan is known, and folder, clock and wires tell, the run is accounted for, and each key keeps its row; after the
     // last steps, the keeper has counted the events of the account; and a run that is done or stopped skipped the listed files
-    // that it does not follow, each for its reason.
+    // that it does not follow, each for its reason. Its moments begin with that of its scan.
     ensures accounted { (earlier : Earlier D) (folder : FolderTold) →
         let scan = scanned.entry.now in
         let outset = outset_of F.Folder K.Clock context.entry scan storing.old around.old in
         let start = began_with (wires_of W.Wire) outset earlier in
-        let objects = objects_of F.Folder K.Clock W.Wire folder earlier around.old storing.new
-        around.new in
+        let objects = objects_of F.Folder K.Clock B.Bell W.Wire folder earlier around.old
+        storing.new around.new in
         SetsOut (disks_of D.Disk) start outset → HasScanned start folder →
         IsSome earlier.moments →
         AllByRecursion (λ wire. IsSome (W.outcomes wire)) around.new.wires.now.items →
         IfOk result (λ worked. AccountedOver (disks_of D.Disk) outset.settings start.opening
-        outset.listed (length folder.scanned.events) objects worked.met worked.passed.items
-        storing.new.keeper.now.shipped storing.new.keeper.now.dropped) }
+        outset.listed outset.moment (length folder.scanned.events) objects worked.met
+        worked.passed.items storing.new.keeper.now.shipped storing.new.keeper.now.dropped) }
     ensures is_open { IfOk result (λ worked.
         AreLeft worked.met → storing.new.keeper.now.store.closed ≡ false) }
     ensures cause { IfOk result (λ worked. IsMetByRun context.entry.settings.now.output.workers

@@ -3,7 +3,7 @@ use Rattle.std.specs.Prelude.{slice_get}
 use Rattle.keeper.specs.FewKeys.{HasRoomFor}
 use Rattle.wire_base.specs.declared.row.Row.{Row}
 use Rattle.accounts.specs.Hidden.{hidden_begin}
-use Rattle.run_steps.specs.HiddenRows.{IsGoingRow}
+use Rattle.run_steps.specs.HiddenRows.{IsGoingRow, going_by}
 use Rattle.run_steps.proofs.HiddenTold.{there_at}
 use Rattle.run_steps.proofs.KnownKeys.{room_for_begin, row_known}
 use Rattle.run_steps.proofs.hidden.tell_or_leave.Goals as goal
@@ -14,7 +14,7 @@ tell_row-requires-clause-few c =
     let known = c.requires.room in
     let row = c.at.result.now in
     let goes = subst (IsGoingRow c.args.inputs.now c.args.keys.now row) c.in-Some.is c.in_ok-row.ensures in
-    let copied = subst (λ (r : Row). HasRoomFor keeper.store.rows keeper.tracked (hidden_begin (record { slot = record { 0 = c.args.slot }; row = r; input = 0; hidden_by = 0 })))
+    let copied = subst (λ (r : Row). HasRoomFor keeper.store.rows keeper.tracked (hidden_begin (going_by (record { 0 = c.args.slot }) r)))
     (sym goes.0)
     (room_for_begin known.keys (record { 0 = c.args.slot }) row.key row.path row.epoch row.offset row.changed keeper known.knows
     (row_known known.keys keeper row known.knows (there_at keeper.store.rows c.args.place row (subst (λ (l : List Row). slice_get l c.args.place ≡ Some row) c.rows.ensures.rows c.at.ensures.at)))) in

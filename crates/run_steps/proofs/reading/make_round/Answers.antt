@@ -1,4 +1,4 @@
-use Rattle.std.proofs.Common.{ℕ, List, Option, refl, sym, subst, ◌∙◌, arith}
+use Rattle.std.proofs.Common.{ℕ, ◌+◌, ◌≤◌, List, Option, refl, sym, subst, ◌∙◌, arith}
 use Rattle.lanes.specs.declared.run.When.{When}
 use Rattle.outside.specs.Times.{GivesMoment}
 use Rattle.rounds.specs.Crewed.{lanings}
@@ -7,12 +7,14 @@ use Rattle.rounds.specs.WordsOf.{words_of}
 use Rattle.run_steps.specs.ClockOn.{MomentsGoOn}
 use Rattle.run_steps.specs.FolderSeen.{seen_in}
 use Rattle.run_steps.specs.MetBy.{phase_after, phase_reading}
+use Rattle.run_steps.specs.Questions.{count_given}
 use Rattle.run_steps.proofs.CarriersGoOn.{carriers_by_round}
 use Rattle.run_steps.proofs.Clocks.{clock_by_moment}
 use Rattle.run_steps.proofs.FailingRounds.{fail_by_round, none_failed_in}
 use Rattle.run_steps.proofs.GoesOn.{none_failed_on}
 use Rattle.run_steps.proofs.MetBy.{all_done_after, each_met, faults_stay, never_fault, none_out_after, reads_after, reads_before, round_failed, some_out_after, stored_well}
 use Rattle.run_steps.proofs.Onward.{round_onward}
+use Rattle.run_steps.proofs.Questions.{given_once}
 use Rattle.run_steps.proofs.ReadersGo.{readers_stay}
 use Rattle.run_steps.proofs.reading.make_round.Goals as goal
 
@@ -93,6 +95,12 @@ returns-clause-goes g c faulty =
 pub returns-clause-none_failed : goal.returns-clause-none_failed
 returns-clause-none_failed g c =
     none_failed_in c.args.context.once c.args.context.settings.now.output.attempts c.round-round.new.self c.round-round.new.storing.keeper.now c.round-round.result c.met_in-met.result c.met_in-met.ensures
+
+pub returns-clause-gives_one_moment : goal.returns-clause-gives_one_moment
+returns-clause-gives_one_moment g c =
+    let before = g.K.Clock.moments c.args.system.now.clock.now in
+    subst (λ (o : Option (List ℕ)). count_given o ≤ count_given before + 1) (sym c.pause_where_still.ensures.moments_kept)
+    (given_once before c.now-now.result.0 (g.K.Clock.moments c.now-now.new.self) c.now-now.ensures.told)
 
 pub returns-clause-asks_the_clock : goal.returns-clause-asks_the_clock
 returns-clause-asks_the_clock g c = c.pause_where_still.ensures.not_asked ∙ c.now-now.ensures.asked

@@ -139,7 +139,7 @@ returns-clause-accounted g c earlier folder sets has clock_tells wires_tell =
       b = c.work.new.storing.b.now;
       phase = is.0;
     })
-    c.work.result.met c.work.new.around.wires.now.items is.1 folder has clock_tells wires_tell c.one_choice.ensures
+    c.work.result.met c.work.new.around.wires.now.items is.1 folder has clock_tells wires_tell (questions_of g.K.Clock g.B.Bell c.work.new.around.clock.now c.work.new.around.bell.now) c.one_choice.ensures
     (record { none = c.covered_end_by_steps.ensures.none; some = c.covered_end_by_steps.ensures.some }) c.work.result.passed.items c.work.ensures.passed c.work.ensures.told_only_where_begun
     c.work.ensures.collects
     (ap (λ (k : Keeping). k.held) (hides_tell c.args.context.settings.now.inputs c.args.scanned.now.listed.items c.begin_all-begun.result c.hide_begun-begun.result c.begin_all-begun.new.keeper c.hide_begun-begun.new.keeper c.hide_begun-begun.ensures).tells.others_stay

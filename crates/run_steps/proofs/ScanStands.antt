@@ -1,0 +1,256 @@
+-- What stands of a run stands once it has scanned again: its folder's list has the scan, and nothing else changes.
+use Rattle.std.proofs.Common.{◌≡◌, ◌⊎◌, inl, inr, ⊎_elim, ℕ, suc, ◌<◌, ◌≤◌, false, true, List, [], ◌∷◌, ◌++◌, Contains, append_assoc, drop, length, length-append, map, Option, Some, None, IfSome, IsSome, refl, sym, ap, subst, ◌∙◌, arith}
+use Rattle.std.proofs.lemmas.Bool.{cases_lt}
+use Rattle.std.proofs.lemmas.List.{map-append}
+use Rattle.std.proofs.lemmas.List.Elements.{Contains-append_left}
+use Rattle.std.proofs.lemmas.Option.{slice_get_within}
+use Rattle.std.specs.Prelude.{slice_get}
+use Rattle.std.specs.List.{AllByRecursion}
+use Rattle.accounts.proofs.Grounded.{each_member}
+use Rattle.accounts.proofs.Lists.{each_last, each_then, in_order_then}
+use Rattle.accounts.proofs.Onward.{stands_with_more, told_by_other}
+use Rattle.accounts.proofs.Orderly.{member_is}
+use Rattle.accounts.specs.Opened.{IsTailOf, Opened}
+use Rattle.accounts.specs.ToldFile.{IsToldFile}
+use Rattle.accounts.specs.Turned.{Turned}
+use Rattle.accounts.specs.Turning.{IsTurnedSo, Pairs}
+use Rattle.accounts.specs.Watch.{MayFindEnd, Name}
+use Rattle.event_tree.specs.declared.settings.Settings.{Settings}
+use Rattle.harvester.specs.Standing.{EndsAt}
+use Rattle.harvester.specs.declared.harvester.Harvester.{Harvester}
+use Rattle.keeper.specs.Keeping.{Keeping}
+use Rattle.kept_rows.specs.Scans.{StandInOrder}
+use Rattle.kept_rows.specs.Trace.{closing_in}
+use Rattle.lanes.specs.Laning.{Laning}
+use Rattle.outside.specs.Folders.{Event, FolderHistory}
+use Rattle.outside.specs.Folders as folders
+use Rattle.outside.specs.Tails.{TailHistory}
+use Rattle.outside.specs.declared.history.Sight.{Sight}
+use Rattle.rounds.specs.Crewed.{lanings}
+use Rattle.rounds.specs.Words.{Words}
+use Rattle.rounds.specs.declared.crew.Crew.{Crew}
+use Rattle.told_scans.proofs.AskedEvents.{event_was, only_asked_still}
+use Rattle.told_scans.proofs.ScanAdds.{AddsClosingNone, asked_in_scan, scan_adds}
+use Rattle.told_scans.proofs.ToldScans.{scan_appended}
+use Rattle.told_scans.specs.FolderOn.{FolderGoesOn}
+use Rattle.told_scans.specs.OnlyAsked.{WasClosedWith, WasOnlyAsked}
+use Rattle.told_scans.specs.ToldScan.{ToldScan}
+use Rattle.told_scans.specs.ToldScans.{AreToldFrom}
+use Rattle.run_steps.specs.Began.{Began}
+use Rattle.run_steps.specs.LaterScans.{AreLaterScans, IsKnownScan, IsNextScan, LaterScan, ScansOn, WasMissed, WasNamed, told_in}
+use Rattle.run_steps.specs.ReadBehind.{ReadsBehind}
+use Rattle.run_steps.specs.RunState.{Phase, RunState}
+use Rattle.run_steps.specs.Shown.{HasDone, HasShown, IsStillOpen, WasOpenedSince, openings_of}
+use Rattle.run_steps.specs.SoFar.{Left, SoFar, files_of}
+use Rattle.run_steps.specs.Stands.{AreTurnedIn, IsLeftRead, IsLeftSo, Stands, watch_of}
+use Rattle.run_steps.proofs.AreRead.{read_still}
+use Rattle.run_steps.proofs.Openings.{IsClosedIn, below_all, left_stays, opened_stays, still_stays, with_more}
+
+-- ---- what it says of files is said still
+
+module _ (scans : List LaterScan) (scan : LaterScan) where
+  missed_on : (opened : Opened) → WasMissed scans opened → WasMissed (scans ++ scan ∷ []) opened
+  missed_on opened was = record {
+    scan = was.scan;
+    of_scans = Contains-append_left scans (scan ∷ []) was.scan was.of_scans;
+    whole = was.whole;
+    after = was.after;
+    not_listed = was.not_listed;
+  }
+
+  named_on : (opened : Opened) (name : Name) → WasNamed scans opened name → WasNamed (scans ++ scan ∷ []) opened name
+  named_on opened name was = record {
+    before = was.before;
+    scan = was.scan;
+    later = was.later ++ scan ∷ [];
+    scans_are = ap (λ (l : List LaterScan). l ++ scan ∷ []) was.scans_are ∙ append_assoc was.before (was.scan ∷ was.later) (scan ∷ []);
+    number_is = was.number_is;
+    after = was.after;
+    one = was.one;
+    listed = was.listed;
+    keyed = was.keyed;
+    path_is = was.path_is;
+  }
+
+  told_last : (told : ToldScan) → scan.told ≡ Some told → (some : List LaterScan) → told_in (some ++ scan ∷ []) ≡ told_in some ++ told ∷ []
+  told_last told is [] = ap (λ (o : Option ToldScan). told_in (record scan { told = o } ∷ [])) is
+  told_last told is (one ∷ some) = by_told one.told refl (told_last told is some)
+    where
+      by_told : (o : Option ToldScan) → one.told ≡ o → told_in (some ++ scan ∷ []) ≡ told_in some ++ told ∷ [] → told_in (one ∷ (some ++ scan ∷ [])) ≡ told_in (one ∷ some) ++ told ∷ []
+      by_told None none rest =
+          ap (λ (o : Option ToldScan). told_in (record one { told = o } ∷ (some ++ scan ∷ []))) none ∙ rest
+          ∙ sym (ap (λ (o : Option ToldScan). told_in (record one { told = o } ∷ some) ++ told ∷ []) none)
+      by_told (Some first) some_told rest =
+          ap (λ (o : Option ToldScan). told_in (record one { told = o } ∷ (some ++ scan ∷ []))) some_told ∙ ap (λ (l : List ToldScan). first ∷ l) rest
+          ∙ sym (ap (λ (o : Option ToldScan). told_in (record one { told = o } ∷ some) ++ told ∷ []) some_told)
+
+module _ {D : Type 0} (start : Began D) where
+  scans_then : (moments : List ℕ) (scans : List LaterScan) (scan : LaterScan) → start.once ≡ false → EndsAt moments scan.moment → (IsSome start.shown → IsKnownScan scan) →
+      AreLaterScans start moments scans → AreLaterScans start moments (scans ++ scan ∷ [])
+  scans_then moments scans scan follows ends known are = record {
+    none_with_once = λ once. absurd (let no : true ≡ false = sym once ∙ follows in cc);
+    timed = subst (λ (l : List ℕ). StandInOrder (start.moment ∷ l) moments) (sym (map-append (λ (one : LaterScan). one.moment) scans (scan ∷ [])))
+        (in_order_then (start.moment ∷ map (λ (one : LaterScan). one.moment) scans) moments scan.moment ends are.timed);
+    known = λ some. each_last IsKnownScan scans scan (are.known some) (known some);
+  }
+
+module _ {T W L D : Type 0} (words : Words T W L D) (start : Began D) (moments : Option (List ℕ)) (crew : Crew T W L) (keeper : Keeping) (a b : D) (phase : Phase) (so_far : SoFar) (scan : LaterScan) where
+  abbrev at : Option FolderHistory → RunState T W L D
+  at shown = record { shown = shown; moments = moments; crew = crew; keeper = keeper; a = a; b = b; phase = phase }
+
+  abbrev pub scanned_too : SoFar
+  scanned_too = record so_far { scans = so_far.scans ++ scan ∷ [] }
+
+  -- ---- the folder
+
+  module _ (before now after : FolderHistory) (next : IsNextScan start.settings now scan after) (done : HasDone start.settings before now (files_of so_far)) where
+    adds : AddsClosingNone now after
+    adds = subst (λ (h : FolderHistory). AddsClosingNone h after) next.earlier_is
+        (subst (AddsClosingNone next.known.told.earlier) next.scanned_is (scan_adds next.known.told next.is))
+
+    after_is : after ≡ with_more now adds.more
+    after_is = λ k. record { files = adds.files k; events = adds.events k }
+
+    on : FolderGoesOn now after
+    on = record { files = adds.files; more = adds.more; events = adds.events }
+
+    goes_on : AreToldFrom start.settings before (told_in scanned_too.scans) after
+    goes_on = subst (λ (l : List ToldScan). AreToldFrom start.settings before l after) (sym (told_last so_far.scans scan next.known.told next.known.told_is so_far.scans))
+        (subst (AreToldFrom start.settings before (told_in so_far.scans ++ next.known.told ∷ [])) next.scanned_is
+        (scan_appended start.settings before (told_in so_far.scans) next.known.told
+        (subst (AreToldFrom start.settings before (told_in so_far.scans)) (sym next.earlier_is) done.scans) next.settings_are next.is))
+
+    serve : (opening : ℕ) (path : List ℕ) (number : ℕ) (begun : Sight) → length before.events ≤ opening →
+        slice_get after.events opening ≡ Some (folders.Opened path number begun) → Contains (openings_of so_far.opened) opening ⊎ WasOnlyAsked after opening
+    serve opening path number begun since is = by_place (cases_lt opening (length now.events))
+      where
+        by_place : (opening < length now.events) ⊎ (length now.events ≤ opening) → Contains (openings_of so_far.opened) opening ⊎ WasOnlyAsked after opening
+        by_place (inl within) =
+            ⊎_elim inl (λ was. inr (only_asked_still now after on opening within was))
+            (done.serve opening path number begun since (event_was now after on opening (folders.Opened path number begun) within is))
+        by_place (inr behind) = inr (subst (λ (h : FolderHistory). WasOnlyAsked h opening) next.scanned_is (asked_in_scan next.known.told next.is opening path number begun
+            (subst (λ (h : FolderHistory). length h.events ≤ opening) (sym next.earlier_is) behind)
+            (subst (λ (h : FolderHistory). slice_get h.events opening ≡ Some (folders.Opened path number begun)) (sym next.scanned_is) is)))
+
+    has_done : HasDone start.settings before after (files_of scanned_too)
+    has_done = record {
+      files = adds.files ∙ done.files;
+      more = done.more ++ adds.more;
+      events = adds.events ∙ ap (λ (l : List Event). l ++ adds.more) done.events ∙ append_assoc before.events done.more adds.more;
+      scans = goes_on;
+      opened = subst (λ (h : FolderHistory). AllByRecursion (WasOpenedSince before h) so_far.opened) (sym after_is) (opened_stays start.settings before now so_far done adds.more so_far.opened done.opened);
+      apart = done.apart;
+      serve = serve;
+      closed = subst (λ (h : FolderHistory). AllByRecursion (IsClosedIn h) so_far.left) (sym after_is) (left_stays start.settings before now so_far done adds.more so_far.left done.closed);
+      still_open = λ one among turned.
+          let below = below_all start.settings before now so_far done one among in
+          subst (λ (h : FolderHistory). IsStillOpen h one.opening) (sym after_is)
+          (still_stays start.settings before now so_far done adds.more one.opening below (adds.closes_none one.opening below) (done.still_open one among turned));
+    }
+
+    -- tails that were closed were read behind each look at their length still
+    left_read : AllByRecursion (IsLeftRead now) so_far.left → AllByRecursion (IsLeftSo (watch_of start so_far.scans) so_far.opened so_far.moments) so_far.left → AllByRecursion (IsLeftRead after) so_far.left
+    left_read read so = subst (λ (h : FolderHistory). AllByRecursion (IsLeftRead h) so_far.left) (sym after_is)
+        (each_member (IsLeftRead (with_more now adds.more)) so_far.left (λ (one : Left) there. by_told one there one.told refl (member_is (IsLeftRead now) so_far.left one read there)))
+      where
+        by_told : (one : Left) → Contains so_far.left one → (o : Option TailHistory) → one.told ≡ o →
+            IfSome o (λ tail. closing_in tail.opening (drop (suc tail.opening) now.events) ≡ Some (record { looks = tail.looks; faults = 0 }) → ReadsBehind false one.turned.history.begin.base tail.looks) →
+            IfSome o (λ tail. closing_in tail.opening (drop (suc tail.opening) (with_more now adds.more).events) ≡ Some (record { looks = tail.looks; faults = 0 }) → ReadsBehind false one.turned.history.begin.base tail.looks)
+        by_told one there None is reads = tt
+        by_told one there (Some tail) is reads =
+            let of = member_is (IsLeftSo (watch_of start so_far.scans) so_far.opened so_far.moments) so_far.left one so there in
+            let tail_is : IsTailOf of.file tail = subst (λ (o : Option TailHistory). IfSome o (IsTailOf of.file)) is of.is_told.tail in
+            let below : tail.opening < length now.events = subst (λ (n : ℕ). n < length now.events) (sym tail_is.opening) (below_all start.settings before now so_far done of.file of.among) in
+            read_still now adds.more one.turned.history.begin.base tail below
+            (subst (λ (o : Option TailHistory). IfSome o (λ tail. WasClosedWith now tail.opening tail.looks)) is
+            (member_is (λ (l : Left). IfSome l.told (λ tail. WasClosedWith now tail.opening tail.looks)) so_far.left one done.closed there)) reads
+
+  -- ---- all that stands
+
+  module _ (shown later : Option FolderHistory) (stands : Stands words start (at shown) so_far) (on : ScansOn start.settings shown scan later)
+      (follows : start.once ≡ false) (ends : EndsAt so_far.moments scan.moment) where
+    has_shown : HasShown start.settings start.shown later (files_of scanned_too)
+    has_shown = by_case start.shown shown later stands.files.shown on
+      where
+        by_case : (before now after : Option FolderHistory) → HasShown start.settings before now (files_of so_far) → ScansOn start.settings now scan after → HasShown start.settings before after (files_of scanned_too)
+        by_case None None after done scans = scans
+        by_case None (Some now) after done scans = absurd (let no : Some now ≡ None = done in cc)
+        by_case (Some before) None after done scans = absurd done
+        by_case (Some before) (Some now) None done scans = absurd scans
+        by_case (Some before) (Some now) (Some after) done scans = has_done before now after scans done
+
+    is_known : IsSome start.shown → IsKnownScan scan
+    is_known some = by_case start.shown shown later stands.files.shown on some
+      where
+        by_case : (before now after : Option FolderHistory) → HasShown start.settings before now (files_of so_far) → ScansOn start.settings now scan after → IsSome before → IsKnownScan scan
+        by_case None now after done scans some = absurd (let no : false ≡ true = some in cc)
+        by_case (Some before) None after done scans some = absurd done
+        by_case (Some before) (Some now) None done scans some = absurd scans
+        by_case (Some before) (Some now) (Some after) done scans some = scans.known
+
+    read_later : IfSome shown (λ now. AllByRecursion (IsLeftRead now) so_far.left) → IsSome start.shown → IfSome later (λ now. AllByRecursion (IsLeftRead now) so_far.left)
+    read_later read some = by_case start.shown shown later stands.files.shown on read some
+      where
+        by_case : (before now after : Option FolderHistory) → HasShown start.settings before now (files_of so_far) → ScansOn start.settings now scan after →
+            IfSome now (λ folder. AllByRecursion (IsLeftRead folder) so_far.left) → IsSome before → IfSome after (λ folder. AllByRecursion (IsLeftRead folder) so_far.left)
+        by_case None now after done scans read some = absurd (let no : false ≡ true = some in cc)
+        by_case (Some before) None after done scans read some = absurd done
+        by_case (Some before) (Some now) None done scans read some = absurd scans
+        by_case (Some before) (Some now) (Some after) done scans read some = left_read before now after scans done read stands.files.left
+
+    turned : Pairs (AreTurnedIn words.tails (watch_of start scanned_too.scans) so_far.opened so_far.moments) so_far.lanes (lanings crew.lanes.items)
+    turned = each_lane so_far.lanes (lanings crew.lanes.items) stands.files.turned
+      where
+        each_one : (ts : List Turned) (hs : List (Harvester T)) → Pairs (IsTurnedSo words.tails.numbers words.tails.told (watch_of start so_far.scans) so_far.opened so_far.moments) ts hs →
+            Pairs (IsTurnedSo words.tails.numbers words.tails.told (watch_of start scanned_too.scans) so_far.opened so_far.moments) ts hs
+        each_one [] [] pairs = tt
+        each_one [] (h ∷ hs) pairs = absurd pairs
+        each_one (t ∷ ts) [] pairs = absurd pairs
+        each_one (t ∷ ts) (h ∷ hs) pairs = (
+          stands_with_more words.tails.numbers words.tails.told (watch_of start so_far.scans) so_far.opened so_far.moments (watch_of start scanned_too.scans) t h refl refl
+              (named_on so_far.scans scan) (missed_on so_far.scans scan) pairs.0,
+          each_one ts hs pairs.1,
+        )
+
+        each_lane : (files : List (List Turned)) (lanes : List (Laning T)) → Pairs (AreTurnedIn words.tails (watch_of start so_far.scans) so_far.opened so_far.moments) files lanes →
+            Pairs (AreTurnedIn words.tails (watch_of start scanned_too.scans) so_far.opened so_far.moments) files lanes
+        each_lane [] [] pairs = tt
+        each_lane [] (lane ∷ lanes) pairs = absurd pairs
+        each_lane (ts ∷ files) [] pairs = absurd pairs
+        each_lane (ts ∷ files) (lane ∷ lanes) pairs = (each_one ts lane.harvesters pairs.0, each_lane files lanes pairs.1)
+
+    left : AllByRecursion (IsLeftSo (watch_of start scanned_too.scans) so_far.opened so_far.moments) so_far.left
+    left = each_then (IsLeftSo (watch_of start so_far.scans) so_far.opened so_far.moments) (IsLeftSo (watch_of start scanned_too.scans) so_far.opened so_far.moments) so_far.left
+        (λ one so. record {
+          file = so.file;
+          among = so.among;
+          is_told = told_by_other (watch_of start so_far.scans) (watch_of start scanned_too.scans) so.file so_far.moments one.turned one.told refl
+              (named_on so_far.scans scan so.file) (may so.file) so.is_told;
+        }) stands.files.left
+      where
+        may : (opened : Opened) → MayFindEnd (watch_of start so_far.scans) opened → MayFindEnd (watch_of start scanned_too.scans) opened
+        may opened (inl once) = inl once
+        may opened (inr removed) = inr (missed_on so_far.scans scan opened removed)
+
+    pub stands_scanned : Stands words start (at later) scanned_too
+    stands_scanned = record {
+      files = record {
+        opened = stands.files.opened;
+        keyed = stands.files.keyed;
+        each_once = stands.files.each_once;
+        turned = turned;
+        left = left;
+        reading = λ is. let was = stands.files.reading is in record { none_left = was.none_left; none_over = was.none_over };
+        finished = stands.files.finished;
+        over = stands.files.over;
+        read = λ yet some. let read = stands.files.read yet some in record { in_lanes = read.in_lanes; in_left = read_later read.in_left some };
+        tell = stands.files.tell;
+        left_tell = stands.files.left_tell;
+        scans = scans_then start so_far.moments so_far.scans scan follows ends is_known stands.files.scans;
+        shown = has_shown;
+        given = stands.files.given;
+      };
+      books = stands.books;
+      notes = stands.notes;
+      areas = stands.areas;
+    }

@@ -1,7 +1,0 @@
-use Rattle.std.proofs.Common.{take}
-use Rattle.run_steps.specs.Removed.{HasListedKeys}
-use Rattle.run_steps.proofs.keys.listed_keys.Given as goal
-
--- the keys of the files so far
-abbrev pub invariant-loop-one : goal.invariant-loop-one
-invariant-loop-one l = HasListedKeys (take l.one-index l.listed) l.keys
