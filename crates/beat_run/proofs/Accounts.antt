@@ -1,5 +1,5 @@
 -- A run that ended before it opened a file is accounted for by what its scan listed, or by nothing; one that opened files by its account.
-use Rattle.std.proofs.Common.{◌≡◌, ◌≢◌, ◌⊎◌, inl, inr, ℕ, true, false, List, [], ◌∷◌, length, map, Option, Some, None, IfSome, IsSome, refl, sym, ap, subst, ◌∙◌}
+use Rattle.std.proofs.Common.{◌≡◌, ◌≢◌, ◌⊎◌, inl, inr, ℕ, true, false, List, [], ◌∷◌, length, map, Option, Some, None, IfSome, IsSome, refl, sym, ap, subst, ◌∙◌, arith}
 use Rattle.std.specs.Prelude.{flat_map}
 use Rattle.std.specs.List.{AllByRecursion}
 use Rattle.batch_worker.specs.Seen.{Seen}
@@ -8,6 +8,7 @@ use Rattle.beat_config.specs.InRange.{AreInRange}
 use Rattle.event_tree.specs.declared.settings.Settings.{Settings as SettingsOf}
 use Rattle.kept_rows.specs.Account.{SlotAccount}
 use Rattle.kept_rows.specs.Run.{Run}
+use Rattle.outside.specs.Counts.{next_count}
 use Rattle.outside.specs.Folders.{FolderHistory}
 use Rattle.outside.specs.Times.{GivesMoment}
 use Rattle.outside.specs.Wires.{Outcome}
@@ -22,12 +23,13 @@ use Rattle.report.specs.declared.status.Status.{Status}
 use Rattle.report.specs.declared.status.Status.TheVariants.{Done, Stopped, Usage, Settings, RegistryBad, DiskFault, FolderFault, Unreachable, OutFault, SourceFault, TooMany, NoNative, NoMemory, Unbuilt}
 use Rattle.rounds.specs.Making.{all_seen}
 use Rattle.rounds.specs.Words.{DiskWords, WireWords}
-use Rattle.run_steps.specs.AccountedFor.{AccountedFor, Objects, RunObjects}
+use Rattle.run_steps.specs.AccountedFor.{AccountedFor, AreMomentsSince, BeginWith, Objects, RunObjects}
 use Rattle.run_steps.specs.Areas.{GiveTheRows, HaveHeldFronts}
 use Rattle.run_steps.specs.Starting.{AreFewFiles, HaveRoomBefore}
 use Rattle.run_steps.specs.Began.{Began}
 use Rattle.run_steps.specs.FollowedOrSkipped.{AreFollowedOrSkipped}
 use Rattle.run_steps.specs.Met.{IsMetOf, IsTelling}
+use Rattle.run_steps.specs.Questions.{Questions, WasAskedFor}
 use Rattle.run_steps.specs.RunOf.{FolderTold}
 use Rattle.run_steps.specs.Scanned.{HasScanned}
 use Rattle.wire_base.specs.declared.limits.Full.TheVariants.{Epochs, Files, Slots}
@@ -36,7 +38,9 @@ use Rattle.run_steps.specs.declared.beginning.Scanned.{Scanned}
 use Rattle.run_steps.specs.declared.met.Met.{Met}
 use Rattle.run_steps.specs.declared.registry_error.RegistryError.{RegistryError}
 use Rattle.run_steps.proofs.Giving.{first_given}
-use Rattle.run_steps.proofs.RunEarly.{early_is_accounted_for, still_is_accounted_for}
+use Rattle.run_steps.proofs.Questions.{was_asked_for}
+use Rattle.run_steps.proofs.RunEarly.{early_is_accounted_for, early_moments, still_is_accounted_for, still_moments}
+use Rattle.run_steps.proofs.RunFits.{first_since, moments_since}
 use Rattle.run_steps.proofs.HeldRows.{some_of}
 use Rattle.told_scans.proofs.Members.{some_is}
 use Rattle.run_steps.proofs.RunRows.{OneChoice}
@@ -201,25 +205,41 @@ later_tells (Some moments) later moment (inr grows) some = subst (λ (o : Option
 module _ {D : Type 0} (disks : DiskWords D) (one : OneChoice) (settings : SettingsOf) (opening : List Row) (from_a from_b a b : D) (gave : GiveTheRows disks from_a from_b opening)
     (held : AreAtRest disks.contents disks.images from_a from_b → HaveHeldFronts disks opening [] from_a from_b a b) (outcomes : List (Option (List Outcome))) where
   -- what all told before it, and behind it
-  abbrev pub early_run : Option FolderHistory → Option FolderHistory → Option (List ℕ) → Option (List ℕ) → RunObjects D
-  early_run told after before later = record {
-    before = record { folder = told; moments = before; outcomes = outcomes; a = from_a; b = from_b };
-    after = record { folder = after; moments = later; outcomes = outcomes; a = a; b = b };
+  abbrev pub early_run : Option FolderHistory → Option FolderHistory → Option (List ℕ) → Option (List ℕ) → Questions → Questions → RunObjects D
+  early_run told after before later asked then_asked = record {
+    before = record { folder = told; moments = before; questions = asked; outcomes = outcomes; a = from_a; b = from_b };
+    after = record { folder = after; moments = later; questions = then_asked; outcomes = outcomes; a = a; b = b };
   }
 
+  -- for its one moment the clock was asked
+  asked_first : (before later : Option (List ℕ)) (moment asked then_asked : ℕ) (gives : GivesMoment before moment later) → IsSome before → then_asked ≡ next_count asked →
+      WasAskedFor asked then_asked (first_given moment before later gives).since
+  asked_first before later moment asked then_asked gives clock once =
+      let first = first_given moment before later gives in
+      let tells = later_tells before later moment gives clock in
+      was_asked_for asked then_asked then_asked once (omega arith) before later later moment first.since gives (first_since before later moment first.since first.given tells)
+      (moments_since before later moment first.since first.given tells) (λ few. omega arith)
+
   -- it scanned
-  pub early : {tells : List ℕ → Type 0} (told after : Option FolderHistory) (before later : Option (List ℕ)) (moment : ℕ) (status : Status) → IsSome told → IsSome before → GivesMoment before moment later →
-      IfSome told (λ history. ScannedSome settings history after) → IsRunEnd status → IsFullFor disks settings (early_run told after before later) status →
-      IsAccounted disks settings (early_run told after before later) status tells
-  early None after before later moment status some clock gives scans ends full = absurd (nothing FolderHistory some)
-  early (Some history) after before later moment status some clock gives scans ends full =
+  pub early : {tells : List ℕ → Type 0} (told after : Option FolderHistory) (before later : Option (List ℕ)) (asked then_asked : Questions) (moment : ℕ) (status : Status) → IsSome told → IsSome before → GivesMoment before moment later →
+      then_asked.clock ≡ next_count asked.clock → IfSome told (λ history. ScannedSome settings history after) → IsRunEnd status → IsFullFor disks settings (early_run told after before later asked then_asked) status →
+      IsAccounted disks settings (early_run told after before later asked then_asked) status tells
+  early None after before later asked then_asked moment status some clock gives once scans ends full = absurd (nothing FolderHistory some)
+  early (Some history) after before later asked then_asked moment status some clock gives once scans ends full =
       let first = first_given moment before later gives in
       let start : Began D = record { settings = settings; once = true; opening = opening; listed = []; doubled = []; moment = moment; shown = Some scans.scanned; moments = before; heard = []; a = from_a; b = from_b } in
+      let both = subst (λ (o : Option FolderHistory). (accounted : AccountedFor disks settings (early_run (Some history) o before later asked then_asked) (early_met status)) ×
+      WasAskedFor asked.clock then_asked.clock accounted.run.trace.moments) (sym scans.after_is) (
+        early_is_accounted_for disks start (scanned_folder history scans.listed scans.scanned) scans.has first.since later first.given (later_tells before later moment gives clock) outcomes a b asked then_asked one gave held (early_met status) (early_not_telling status),
+        subst (λ (l : List ℕ). WasAskedFor asked.clock then_asked.clock l)
+            (sym (early_moments disks start (scanned_folder history scans.listed scans.scanned) scans.has first.since later first.given (later_tells before later moment gives clock) outcomes a b asked then_asked one gave held (early_met status) (early_not_telling status)))
+            (asked_first before later moment asked.clock then_asked.clock gives clock once),
+      ) in
       record {
         what = early_met status;
         met_for = early_met_for status ends;
-        accounted = subst (λ (o : Option FolderHistory). AccountedFor disks settings (early_run (Some history) o before later) (early_met status)) (sym scans.after_is)
-            (early_is_accounted_for disks start (scanned_folder history scans.listed scans.scanned) scans.has first.since later first.given (later_tells before later moment gives clock) outcomes a b one gave held (early_met status) (early_not_telling status));
+        accounted = both.0;
+        asked = both.1;
         cleaned = λ rest telling. absurd (early_not_telling status telling);
         reported = λ end. absurd (never_reported status ends end);
         counted = λ is_done. absurd (early_not_done status is_done);
@@ -232,19 +252,22 @@ module _ {D : Type 0} (disks : DiskWords D) (one : OneChoice) (settings : Settin
 module _ {D : Type 0} (disks : DiskWords D) (one : OneChoice) (settings : SettingsOf) (opening : List Row) (from_a from_b a b : D)
     (gave : GiveTheRows disks from_a from_b opening)
     (held : AreAtRest disks.contents disks.images from_a from_b → HaveHeldFronts disks opening [] from_a from_b a b) (outcomes : List (Option (List Outcome))) where
-  abbrev pub still_run : Option FolderHistory → Option (List ℕ) → RunObjects D
-  still_run told before = record {
-    before = record { folder = told; moments = before; outcomes = outcomes; a = from_a; b = from_b };
-    after = record { folder = told; moments = before; outcomes = outcomes; a = a; b = b };
+  abbrev pub still_run : Option FolderHistory → Option (List ℕ) → Questions → RunObjects D
+  still_run told before asked = record {
+    before = record { folder = told; moments = before; questions = asked; outcomes = outcomes; a = from_a; b = from_b };
+    after = record { folder = told; moments = before; questions = asked; outcomes = outcomes; a = a; b = b };
   }
 
-  pub still : {tells : List ℕ → Type 0} (told : Option FolderHistory) (before : Option (List ℕ)) (status : Status) → IsSome told → IsSome before → IsRunEnd status → IsFullFor disks settings (still_run told before) status → IsAccounted disks settings (still_run told before) status tells
-  still None before status some clock ends full = absurd (nothing FolderHistory some)
-  still (Some history) None status some clock ends full = absurd (nothing (List ℕ) clock)
-  still (Some history) (Some moments) status some clock ends full = record {
+  pub still : {tells : List ℕ → Type 0} (told : Option FolderHistory) (before : Option (List ℕ)) (asked : Questions) (status : Status) → IsSome told → IsSome before → IsRunEnd status →
+      IsFullFor disks settings (still_run told before asked) status → IsAccounted disks settings (still_run told before asked) status tells
+  still None before asked status some clock ends full = absurd (nothing FolderHistory some)
+  still (Some history) None asked status some clock ends full = absurd (nothing (List ℕ) clock)
+  still (Some history) (Some moments) asked status some clock ends full = record {
     what = early_met status;
     met_for = early_met_for status ends;
-    accounted = still_is_accounted_for disks settings opening history moments outcomes from_a from_b a b one gave held (early_met status) (early_not_telling status);
+    accounted = still_is_accounted_for disks settings opening history moments outcomes from_a from_b a b asked one gave held (early_met status) (early_not_telling status);
+    asked = subst (λ (l : List ℕ). WasAskedFor asked.clock asked.clock l)
+        (sym (still_moments disks settings opening history moments outcomes from_a from_b a b asked one gave held (early_met status) (early_not_telling status))) (λ few. omega arith);
     cleaned = λ rest telling. absurd (early_not_telling status telling);
     reported = λ end. absurd (never_reported status ends end);
     counted = λ is_done. absurd (early_not_done status is_done);
@@ -266,10 +289,11 @@ pub wires_tell : {W : Type 0} (outcomes : W → Option (List Outcome)) (wires : 
 wires_tell outcomes [] tell = tt
 wires_tell outcomes (w ∷ wires) tell = (tell.0, wires_tell outcomes wires tell.1)
 
--- a run that is accounted for, of which no row of a removed file is left, whose numbers are those of its account, and which follows each listed file
--- or skipped it
-pub record IsWorked {D : Type 0} (disks : DiskWords D) (settings : SettingsOf) (what : Met) (shipped dropped : ℕ) (listed : List Listed) (scanned : ℕ) (passed : List Passing) (objects : RunObjects D) : Type 0 where
+-- a run that is accounted for by moments of which this is the first, of which no row of a removed file is left, whose numbers are those of its
+-- account, and which follows each listed file or skipped it
+pub record IsWorked {D : Type 0} (disks : DiskWords D) (settings : SettingsOf) (what : Met) (shipped dropped : ℕ) (listed : List Listed) (moment scanned : ℕ) (passed : List Passing) (objects : RunObjects D) : Type 0 where
   pub accounted : AccountedFor disks settings objects what
+  pub begins : BeginWith moment accounted.run.trace.moments
   pub cleaned : LeavesNoRemoved disks objects what accounted.run
   pub placed : ArePlacedIn accounted.account accounted.run.trace.wires
   pub numbers : IsTelling what → AreNumbersOf accounted.account shipped dropped
@@ -277,10 +301,10 @@ pub record IsWorked {D : Type 0} (disks : DiskWords D) (settings : SettingsOf) (
   pub followed_or_skipped : IsTelling what → AreFollowedOrSkipped accounted.run accounted.account scanned listed passed
 
 -- with what the folder told, where it tells, and what its scan told
-module _ {D : Type 0} (disks : DiskWords D) (start : Began D) (in_range : AreInRange start.settings) (outcomes : List (Option (List Outcome))) (after : Objects D) (what : Met) (shipped dropped : ℕ)
-    (scan : Scanned) (listed_are : scan.listed.items ≡ start.listed) (doubled_are : scan.doubled.items ≡ start.doubled) (passed : List Passing) where
+module _ {D : Type 0} (disks : DiskWords D) (start : Began D) (in_range : AreInRange start.settings) (once : start.once ≡ true) (outcomes : List (Option (List Outcome))) (after : Objects D) (what : Met) (shipped dropped : ℕ)
+    (scan : Scanned) (listed_are : scan.listed.items ≡ start.listed) (doubled_are : scan.doubled.items ≡ start.doubled) (passed : List Passing) (asked : Questions) where
   abbrev pub worked_run : Option FolderHistory → RunObjects D
-  worked_run told = record { before = record { folder = told; moments = start.moments; outcomes = outcomes; a = start.a; b = start.b }; after = after }
+  worked_run told = record { before = record { folder = told; moments = start.moments; questions = asked; outcomes = outcomes; a = start.a; b = start.b }; after = after }
 
   -- the report that it tells is one over each such account
   abbrev pub ReportsOver : (List ℕ → Type 0) → Option FolderHistory → Status → Type 0
@@ -323,14 +347,16 @@ module _ {D : Type 0} (disks : DiskWords D) (start : Began D) (in_range : AreInR
 
   pub worked : {tells : List ℕ → Type 0} (told : Option FolderHistory) (status : Status) → IsSome told → IfSome told (λ history. TellsScanned start.settings.inputs history scan start.shown) → GoesFurther start.shown after.folder →
       KeptWithin → IsMetFor status what → IsFullFor disks start.settings (worked_run told) status → ReportsOver tells told status →
-      ((folder : FolderTold) → HasScanned start folder → IsWorked disks start.settings what shipped dropped start.listed (length folder.scanned.events) passed (worked_run (Some folder.earlier))) →
+      ((moments : List ℕ) → BeginWith start.moment moments → AreMomentsSince start.moments after.moments moments → WasAskedFor asked.clock after.questions.clock moments) →
+      ((folder : FolderTold) → HasScanned start folder → IsWorked disks start.settings what shipped dropped start.listed start.moment (length folder.scanned.events) passed (worked_run (Some folder.earlier))) →
       IsAccounted disks start.settings (worked_run told) status tells
-  worked None status some scans goes limits is full reports accounted = absurd (nothing FolderHistory some)
-  worked (Some history) status some scans goes limits is full reports accounted =
+  worked None status some scans goes limits is full reports was_asked accounted = absurd (nothing FolderHistory some)
+  worked (Some history) status some scans goes limits is full reports was_asked accounted =
       let parted = scans.parted in
       let folder : FolderTold = record { earlier = history; listed = parted.listed; scanned = parted.scanned; ended = parted.scanned; asked = parted.asked } in
       let worked_so = accounted folder (record {
         in_range = in_range;
+        once = once;
         shown = parted.after_is;
         all = parted.all;
         scans = parted.scans;
@@ -344,6 +370,7 @@ module _ {D : Type 0} (disks : DiskWords D) (start : Began D) (in_range : AreInR
         what = what;
         met_for = is;
         accounted = worked_so.accounted;
+        asked = was_asked worked_so.accounted.run.trace.moments worked_so.begins worked_so.accounted.fits.moments;
         cleaned = worked_so.cleaned;
         reported = reports worked_so.accounted.run worked_so.accounted.account worked_so.placed worked_so.numbers
             (λ telling.
@@ -370,6 +397,7 @@ module _ {F W D : Type 0} (disks : DiskWords D) (source : Option (List ℕ)) (le
       what = by.is.what;
       met_for = by.is.met_for;
       accounted = by.is.accounted;
+      asked = by.is.asked;
       cleaned = by.is.cleaned;
       reported = λ end text told. by.is.reported end text (was end text told);
       counted = by.is.counted;
@@ -387,7 +415,7 @@ module _ {F W D : Type 0} (disks : DiskWords D) (source : Option (List ℕ)) (le
     named_or_unused = by.named_or_unused;
     supported = by.supported;
     in_range = by.in_range;
-    is = record { what = by.is.what; met_for = tt; accounted = by.is.accounted; cleaned = by.is.cleaned; reported = λ end. absurd end; counted = by.is.counted; within = λ end. absurd end; numbered = λ end. absurd end; full_for = tt };
+    is = record { what = by.is.what; met_for = tt; accounted = by.is.accounted; asked = by.is.asked; cleaned = by.is.cleaned; reported = λ end. absurd end; counted = by.is.counted; within = λ end. absurd end; numbered = λ end. absurd end; full_for = tt };
   }
 
   -- a status alone

@@ -253,6 +253,11 @@ module _ (settings : SettingsOf) (before now : Signs) (a_faults b_faults : ℕ) 
   failed_earlier (inl rose) = inl (rose_since before.counts.a_faults a_faults now.counts.a_faults a_no_less rose)
   failed_earlier (inr rose) = inr (rose_since before.counts.b_faults b_faults now.counts.b_faults b_no_less rose)
 
+  failed_as_before : (worker : ℕ) → HasFailedAt settings worker mid now → HasFailedAt settings worker before now
+  failed_as_before worker failed told tells =
+      let by = failed told tells in
+      record { moments = by.moments; given = record { since = by.given.since; asked = by.given.asked }; failed = by.failed }
+
   pub caused_earlier : (status : Status) → CauseBy settings mid now status → CauseBy settings before now status
   caused_earlier Done cause = tt
   caused_earlier Stopped cause = cause
@@ -261,7 +266,7 @@ module _ (settings : SettingsOf) (before now : Signs) (a_faults b_faults : ℕ) 
   caused_earlier (RegistryBad area at) cause = tt
   caused_earlier DiskFault cause = failed_earlier cause
   caused_earlier FolderFault cause = cause
-  caused_earlier (Unreachable worker failures) cause = record { number = cause.number; worker_is = cause.worker_is; failed = cause.failed }
+  caused_earlier (Unreachable worker failures) cause = record { number = cause.number; worker_is = cause.worker_is; failed = failed_as_before worker cause.failed }
   caused_earlier OutFault cause = absurd cause
   caused_earlier SourceFault cause = absurd cause
   caused_earlier (TooMany Files path) cause = cause

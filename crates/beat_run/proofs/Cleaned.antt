@@ -8,6 +8,7 @@ use Rattle.event_tree.specs.declared.input_rule.IdentityRule.{IdentityRule}
 use Rattle.event_tree.specs.declared.input_rule.IdentityRule.TheVariants.{Fingerprint, Native, Path}
 use Rattle.event_tree.specs.declared.input_rule.InputRule.{InputRule}
 use Rattle.event_tree.specs.declared.settings.Settings.{Settings}
+use Rattle.file_rows.specs.Removed.{IsRemoved}
 use Rattle.kept_rows.specs.Followed.{IsKeyOf}
 use Rattle.kept_rows.specs.Run.{Run, Scan}
 use Rattle.kept_rows.proofs.Showing.{both}
@@ -24,7 +25,6 @@ use Rattle.told_scans.proofs.Members.{some_is}
 use Rattle.run_steps.specs.AccountedFor.{RunObjects}
 use Rattle.run_steps.specs.AccountedOver.{AccountedOver}
 use Rattle.run_steps.specs.Began.{Began}
-use Rattle.run_steps.specs.Removed.{IsRemoved}
 use Rattle.run_steps.specs.RunOf.{FolderTold}
 use Rattle.run_steps.specs.Scanned.{HasScanned}
 use Rattle.run_steps.specs.declared.met.Met.{Met}
@@ -74,7 +74,7 @@ keys_are_known start folder has =
 -- ---- none of a removed file is left
 
 module _ {D : Type 0} (disks : DiskWords D) (settings : Settings) (opening : List Row) (listed : List Listed) (known : All (λ (listing : Listed). IsSome listing.key) listed)
-    (scanned : ℕ) (objects : RunObjects D) (met : Met) (passed : List Passing) (shipped dropped : ℕ) (over : AccountedOver disks settings opening listed scanned objects met passed shipped dropped) where
+    (moment scanned : ℕ) (objects : RunObjects D) (met : Met) (passed : List Passing) (shipped dropped : ℕ) (over : AccountedOver disks settings opening listed moment scanned objects met passed shipped dropped) where
   abbrev run : Run
   run = over.accounted.run
 
@@ -93,9 +93,10 @@ module _ {D : Type 0} (disks : DiskWords D) (settings : Settings) (opening : Lis
       each_then (λ (row : Row). ¬ (IsRemoved settings.inputs listed row.key)) (λ (row : Row). ¬ (IsOfRemovedFile run row)) rows (λ row stays of. stays (is_removed row of))
       (over.cleaned were telling first second rows a_is b_is gives)
 
-  pub worked_over : IsWorked disks settings met shipped dropped listed scanned passed objects
+  pub worked_over : IsWorked disks settings met shipped dropped listed moment scanned passed objects
   worked_over = record {
     accounted = over.accounted;
+    begins = over.begins;
     cleaned = none_of_removed_files;
     placed = over.placed;
     numbers = λ telling. over.numbers (left_telling met telling);

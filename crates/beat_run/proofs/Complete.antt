@@ -1,5 +1,5 @@
 -- A run that nothing troubles is done: each status that blames something has a cause that there was not.
-use Rattle.std.proofs.Common.{◌≡◌, ◌⊎◌, ◌↔◌, inl, inr, ℕ, zero, suc, ◌+◌, ◌-◌, ◌<◌, ◌≤◌, nat_le, Bool, true, false, if◌then◌else◌, List, [], ◌∷◌, ◌++◌, drop, length, map, take, Option, None, Some, IfSome, IsSome, IsSomeAnd, IsTrue, is_none, is_some, refl, sym, ap, subst, ◌∙◌, append_assoc, length-append, arith}
+use Rattle.std.proofs.Common.{◌≡◌, ◌⊎◌, ◌↔◌, inl, inr, ℕ, zero, suc, ◌+◌, ◌<◌, ◌≤◌, nat_le, Bool, true, false, if◌then◌else◌, List, [], ◌∷◌, ◌++◌, drop, length, map, take, Option, None, Some, IfSome, IsSome, IsSomeAnd, IsTrue, is_none, is_some, refl, sym, ap, subst, ◌∙◌, append_assoc, length-append, arith}
 use Rattle.std.proofs.lemmas.Bool.{leb-true}
 use Rattle.std.specs.Prelude.{slice_get}
 use Rattle.std.specs.List.{AllByRecursion, filter}
@@ -38,7 +38,7 @@ use Rattle.wire_base.specs.declared.limits.Which.{Which}
 use Rattle.wire_base.specs.declared.row.Row.{Row}
 use Rattle.beat_run.specs.Accounted.{HasNoEpoch, HasNoRoom, IsAccountedByNamed, IsAccountedWhereTold, RunLent}
 use Rattle.beat_run.specs.Asked.{AskForOnce, IsAsked}
-use Rattle.beat_run.specs.Cause.{AllSigns, Cause, HasFailedSince, IsFailedWorker, LacksNumbers, Signs}
+use Rattle.beat_run.specs.Cause.{AllSigns, Cause, HasFailedBetween, HasFailedSince, IsFailedWorker, LacksNumbers, MayHaveGiven, Signs}
 use Rattle.beat_run.specs.Completeness.{EachSince, GivenRun, HasRoom, HaveNumbers, IsNotIdle, IsServed, IsUntroubled, IsUntroubledEnd, OfEachWire, PeersServe, TellsBuilt}
 use Rattle.beat_run.specs.Ends.{ListsTooMany}
 use Rattle.beat_run.specs.Named.{IsNamed}
@@ -62,7 +62,7 @@ pub record ShownRun (F W D : Type 0) : Type 0 where
 
 -- the objects that it is accounted for by
 abbrev pub objects_by : {D : Type 0} → D → D → Signs → Objects D
-objects_by a b signs = record { folder = signs.folder; moments = signs.moments; outcomes = map (λ wire. wire.outcomes) signs.wires; a = a; b = b }
+objects_by a b signs = record { folder = signs.folder; moments = signs.moments; questions = signs.questions; outcomes = map (λ wire. wire.outcomes) signs.wires; a = a; b = b }
 
 -- what `ship` ensures of the status that it ends with
 pub record EndsWith {F W D : Type 0} (disks : DiskWords D) (run : ShownRun F W D) (status : Status) : Type 0 where
@@ -88,9 +88,6 @@ at_some_and o x P is so = subst (λ p. IsSomeAnd p P) is so
 what_is : {A : Type 0} (o : Option A) (P : A → Type 0) → IsSomeAnd o P → (x : A) × (o ≡ Some x) × P x
 what_is None P so = absurd so
 what_is (Some x) P so = (x, refl, so)
-
-at_both : {A B : Type 0} (o : Option A) (p : Option B) (P : A → B → Type 0) (x : A) (y : B) → o ≡ Some x → p ≡ Some y → IfSome o (λ a. IfSome p (P a)) → P x y
-at_both o p P x y is also so = at_some p y (P x) also (at_some o x (λ a. IfSome p (P a)) is so)
 
 there_is : {A : Type 0} (xs : List A) (k : ℕ) → k < length xs → (x : A) × (slice_get xs k ≡ Some x)
 there_is [] k inside = absurd (omega (arith, inside))
@@ -203,17 +200,15 @@ module _ (settings : SettingsOf) (before now : Signs) (some : 1 ≤ settings.out
   no_worker_fails worker failures is =
       let (old, old_is) = there_is before.wires worker (omega (arith, is.worker_is, few, sixteen)) in
       let (new, new_is) = there_is now.wires worker (omega (arith, is.worker_is, few, sixteen, as_many)) in
-      not_failed settings (drop (length serve.first - 1) serve.moments) old new some (serve.wires worker old new old_is new_is) (serve.served worker old new old_is new_is) (in_time old new old_is new_is serve.in_time)
-      (at_both before.moments now.moments
-      (λ (first moments : List ℕ). (one other : Seen) → slice_get before.wires worker ≡ Some one → slice_get now.wires worker ≡ Some other →
-      IfSome one.outcomes (λ earlier. HasFailedSince settings (drop (length first - 1) moments) earlier other))
-      serve.first serve.moments serve.first_are serve.moments_are is.failed old new old_is new_is)
+      let by = is.failed serve.clock_told serve.clock_tells in
+      not_failed settings by.moments old new some (serve.wires worker old new old_is new_is) (serve.served worker old new old_is new_is) (in_time by old new old_is new_is serve.in_time)
+      (by.failed old new old_is new_is)
     where
-      in_time : (old new : Seen) → slice_get before.wires worker ≡ Some old → slice_get now.wires worker ≡ Some new →
-          OfEachWire (EachSince IsNotIdle) before now ⊎ (¬ (LieApart (drop (length serve.first - 1) serve.moments) settings.output.timeout)) →
-          EachSince IsNotIdle old new ⊎ (¬ (LieApart (drop (length serve.first - 1) serve.moments) settings.output.timeout))
-      in_time old new old_is new_is (inl not_idle) = inl (not_idle worker old new old_is new_is)
-      in_time old new old_is new_is (inr never) = inr never
+      in_time : (by : HasFailedBetween settings worker before now) (old new : Seen) → slice_get before.wires worker ≡ Some old → slice_get now.wires worker ≡ Some new →
+          OfEachWire (EachSince IsNotIdle) before now ⊎ ((moments : List ℕ) → MayHaveGiven before now moments → ¬ (LieApart moments settings.output.timeout)) →
+          EachSince IsNotIdle old new ⊎ (¬ (LieApart by.moments settings.output.timeout))
+      in_time by old new old_is new_is (inl not_idle) = inl (not_idle worker old new old_is new_is)
+      in_time by old new old_is new_is (inr never) = inr (never by.moments by.given)
 
 -- ---- the files
 
@@ -305,7 +300,7 @@ module _ {F W D : Type 0} (disks : DiskWords D) (run : ShownRun F W D) (one : On
   accounted_so status ends = ends.accounted (record {
     tell = record {
       folder = ap (λ (o : Option FolderHistory). is_some o) untroubled.room.told_is;
-      moments = ap (λ (o : Option (List ℕ)). is_some o) untroubled.peers.first_are;
+      moments = untroubled.peers.clock_told;
       wires = all_tell run.before.signs.wires run.now.signs.wires ends.as_many untroubled.peers.served;
     };
     areas = untroubled.rows;

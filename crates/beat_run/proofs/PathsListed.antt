@@ -56,10 +56,10 @@ are_skipped settings run account told scanned after scan opened same tells goes 
       are = refl;
     }
 
-pub shown_goes_further : (scanned after : Option FolderHistory) (so_far : FilesSoFar) → HasShown scanned after so_far → GoesFurther scanned after
-shown_goes_further None after so_far shown = record { more = λ history none. absurd cc }
-shown_goes_further (Some before) None so_far shown = absurd shown
-shown_goes_further (Some before) (Some now) so_far shown = record {
+pub shown_goes_further : (settings : SettingsOf) (scanned after : Option FolderHistory) (so_far : FilesSoFar) → HasShown settings scanned after so_far → GoesFurther scanned after
+shown_goes_further settings None after so_far shown = record { more = λ history none. absurd cc }
+shown_goes_further settings (Some before) None so_far shown = absurd shown
+shown_goes_further settings (Some before) (Some now) so_far shown = record {
   more = λ history is.
       let same : before ≡ history = cc in
       subst (λ (h : FolderHistory). (events : List Event) × (Some now ≡ Some (record h { events = h.events ++ events }))) same

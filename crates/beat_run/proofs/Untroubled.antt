@@ -44,8 +44,8 @@ module _ {F W D : Type 0} (disks : DiskWords D) (wires : WireWords W) where
       ((first second : List ℕ) (area : Which) (at : ℕ) → disks.contents given.a ≡ Some first → disks.contents given.b ≡ Some second → status ≡ RegistryBad area at → AreRefusedAt first second area at) →
       Cause given.source before now status →
       IsAccountedWhereTold disks given.source lent (record {
-        before = record { folder = before.signs.folder; moments = before.signs.moments; outcomes = map wires.outcomes olds; a = given.a; b = given.b };
-        after = record { folder = now.signs.folder; moments = now.signs.moments; outcomes = map wires.outcomes news; a = a; b = b };
+        before = record { folder = before.signs.folder; moments = before.signs.moments; questions = before.signs.questions; outcomes = map wires.outcomes olds; a = given.a; b = given.b };
+        after = record { folder = now.signs.folder; moments = now.signs.moments; questions = now.signs.questions; outcomes = map wires.outcomes news; a = a; b = b };
       }) status (StandsBehind written printed) →
       IsUntroubledEnd status
   line_untroubled given before now untroubled olds news lent a b written printed status before_is now_is sixteen as_many one usage unbuilt settings registry cause accounted =
@@ -53,8 +53,8 @@ module _ {F W D : Type 0} (disks : DiskWords D) (wires : WireWords W) where
       let earlier = outcomes_of_all wires olds ∙ ap (λ (l : List Seen). map (λ (wire : Seen). wire.outcomes) l) (sym before_is) in
       let later = outcomes_of_all wires news ∙ ap (λ (l : List Seen). map (λ (wire : Seen). wire.outcomes) l) (sym now_is) in
       let by_first = subst (λ (o : List (Option (List Outcome))). IsAccountedWhereTold disks given.source lent (record {
-        before = record { folder = before.signs.folder; moments = before.signs.moments; outcomes = o; a = given.a; b = given.b };
-        after = record { folder = now.signs.folder; moments = now.signs.moments; outcomes = map wires.outcomes news; a = a; b = b };
+        before = record { folder = before.signs.folder; moments = before.signs.moments; questions = before.signs.questions; outcomes = o; a = given.a; b = given.b };
+        after = record { folder = now.signs.folder; moments = now.signs.moments; questions = now.signs.questions; outcomes = map wires.outcomes news; a = a; b = b };
       }) status (StandsBehind written printed)) earlier accounted in
       ends_untroubled disks run one untroubled status (record {
         usage = usage;
@@ -64,7 +64,7 @@ module _ {F W D : Type 0} (disks : DiskWords D) (wires : WireWords W) where
         cause = cause;
         accounted = subst (λ (o : List (Option (List Outcome))). IsAccountedWhereTold disks given.source lent (record {
           before = objects_by given.a given.b before.signs;
-          after = record { folder = now.signs.folder; moments = now.signs.moments; outcomes = o; a = a; b = b };
+          after = record { folder = now.signs.folder; moments = now.signs.moments; questions = now.signs.questions; outcomes = o; a = a; b = b };
         }) status (StandsBehind written printed)) later by_first;
         sixteen = ap (λ (l : List Seen). length l) before_is ∙ length-map olds _ ∙ sixteen;
         as_many = ap (λ (l : List Seen). length l) now_is ∙ length-map news _ ∙ as_many ∙ sym (length-map olds _) ∙ ap (λ (l : List Seen). length l) (sym before_is);

@@ -213,6 +213,7 @@ module _ (one : OneChoice) where
       what = met.Done;
       met_for = refl;
       accounted = is_accounted_for one;
+      asked = λ few. omega arith;
       cleaned = none_removed;
       reported = λ end text tells. absurd (let q : None ≡ Some tells.front = tells.held_before in cc);
       counted = λ is_done. all_counted;

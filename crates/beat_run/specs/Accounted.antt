@@ -21,6 +21,7 @@ use Rattle.wire_base.specs.declared.row.Row.{Row}
 use Rattle.run_steps.specs.AccountedFor.{AccountedFor, AreRowsBy, Objects, RunObjects, WereAtRest}
 use Rattle.run_steps.specs.Areas.{GiveTheRows, HaveHeldFronts}
 use Rattle.run_steps.specs.Met.{AreLeft, IsTelling}
+use Rattle.run_steps.specs.Questions.{WasAskedFor}
 use Rattle.run_steps.specs.Together.{Areas}
 use Rattle.run_steps.specs.declared.met.Met.{Met}
 use Rattle.beat_run.specs.Ends.{IsBehindSettings, IsReportEnd, ListsTooMany}
@@ -72,12 +73,14 @@ abbrev pub LeavesNoRemoved : {D : Type 0} → DiskWords D → RunObjects D → M
 LeavesNoRemoved disks objects what run =
     WereAtRest disks objects → IsTelling what → AreRowsBy disks objects.after (λ rows. AllByRecursion (λ row. ¬ (IsOfRemovedFile run row)) rows)
 
--- the numbers of the report that it tells are those of the account, and its skipped paths those that the run skipped, each for its reason;
--- where it is done, the numbers are of all events; and where it tells a report, it stayed within the limits of files, epochs and native numbers
+-- the clock was asked for each moment of the account; the numbers of the report that it tells are those of the account, and its skipped paths
+-- those that the run skipped, each for its reason; where it is done, the numbers are of all events; and where it tells a report, it stayed within
+-- the limits of files, epochs and native numbers
 pub record IsAccounted {D : Type 0} (disks : DiskWords D) (settings : Settings) (objects : RunObjects D) (status : Status) (tells : List ℕ → Type 0) : Type 0 where
   pub what : Met
   pub met_for : IsMetFor status what
   pub accounted : AccountedFor disks settings objects what
+  pub asked : WasAskedFor objects.before.questions.clock objects.after.questions.clock accounted.run.trace.moments
   pub cleaned : LeavesNoRemoved disks objects what accounted.run
   pub reported : IsReportEnd status → (text : List ℕ) → tells text → IsReportOver objects accounted.run accounted.account status text
   pub counted : what ≡ met.Done → AreAllCounted accounted.account

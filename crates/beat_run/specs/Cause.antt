@@ -1,6 +1,6 @@
 -- Why a run ended as it did (this project's profile): one equation for each status. What shows of the objects is given as it was
 -- before the run and as it is now.
-use Rattle.std.specs.Prelude.{◌≡◌, ◌⊎◌, ◌-◌, ◌<◌, ℕ, List, Any, Contains, drop, length, slice_get, Option, Some, IfSome}
+use Rattle.std.specs.Prelude.{◌≡◌, ◌⊎◌, ◌<◌, ℕ, List, Any, Contains, drop, length, slice_get, Option, Some, IfSome, IsSome}
 use Rattle.batch_worker.specs.Seen.{Seen}
 use Rattle.event_tree.specs.declared.input_rule.IdentityRule.TheVariants.{Native}
 use Rattle.event_tree.specs.declared.input_rule.InputRule.{InputRule}
@@ -14,16 +14,19 @@ use Rattle.prospect.specs.ListedFiles.{FindsNoNumbers}
 use Rattle.prospect.specs.Members.{IsCovered}
 use Rattle.report.specs.declared.status.Status.{Status}
 use Rattle.report.specs.declared.status.Status.TheVariants.{Done, Stopped, Usage, Settings, RegistryBad, DiskFault, FolderFault, Unreachable, OutFault, SourceFault, TooMany, NoNative, NoMemory, Unbuilt}
+use Rattle.run_steps.specs.AccountedFor.{AreMomentsSince}
+use Rattle.run_steps.specs.Questions.{Questions, WasAskedFor}
 use Rattle.run_steps.specs.Unnumbered.{WasOpenedUnnumbered}
 use Rattle.run_steps.specs.Worked.{Tolls}
 use Rattle.wire_base.specs.declared.limits.Full.TheVariants.{Epochs, Files, Slots}
 use Rattle.beat_run.specs.Named.{IsNamed}
 
--- what shows of the objects that a run uses once its settings are known: what folder, clock and each wire tell, and counts of faults
--- and of rings
+-- what shows of the objects that a run uses once its settings are known: what folder, clock and each wire tell, how often clock and bell
+-- were asked, and counts of faults and of rings
 pub record Signs : Type 0 where
   pub folder : Option FolderHistory
   pub moments : Option (List ℕ)
+  pub questions : Questions
   pub wires : List Seen
   pub counts : Tolls
 
@@ -51,10 +54,22 @@ pub record HasFailedSince (settings : SettingsOf) (moments : List ℕ) (earlier 
   pub tells : wire.outcomes ≡ Some all
   pub failures : IsAtEnd wire.faults ⊎ HasLastFailures settings.output.timeout settings.output.attempts moments (drop (length earlier) all)
 
--- so it is of the wire at this place, where it and the clock tell; with the last moment that the clock had given before
+-- the clock may have given a run in between these moments: the first it had given last, or appended, the others it appended, and it was
+-- asked for each of them
+pub record MayHaveGiven (before now : Signs) (moments : List ℕ) : Type 0 where
+  pub since : AreMomentsSince before.moments now.moments moments
+  pub asked : WasAskedFor before.questions.clock now.questions.clock moments
+
+-- by such moments the wire at this place failed so, where it tells
+pub record HasFailedBetween (settings : SettingsOf) (place : ℕ) (before now : Signs) : Type 0 where
+  pub moments : List ℕ
+  pub given : MayHaveGiven before now moments
+  pub failed : (old new : Seen) → slice_get before.wires place ≡ Some old → slice_get now.wires place ≡ Some new →
+      IfSome old.outcomes (λ earlier. HasFailedSince settings moments earlier new)
+
+-- where the clock tells
 abbrev pub HasFailedAt : SettingsOf → ℕ → Signs → Signs → Type 0
-HasFailedAt settings place before now = IfSome before.moments (λ first. IfSome now.moments (λ moments. (old new : Seen) → slice_get before.wires place ≡ Some old → slice_get now.wires place ≡ Some new →
-    IfSome old.outcomes (λ earlier. HasFailedSince settings (drop (length first - 1) moments) earlier new)))
+HasFailedAt settings place before now = IsSome before.moments → IsSome now.moments → HasFailedBetween settings place before now
 
 -- a worker of these settings, which failed as often in a row as they let it
 pub record IsFailedWorker (settings : SettingsOf) (before now : Signs) (worker failures : ℕ) : Type 0 where

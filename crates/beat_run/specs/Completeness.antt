@@ -1,7 +1,7 @@
 -- When a run has to be done (this project's profile): nothing that it is given is refused or not built, no count of faults rises, the bell
 -- does not ring, files are no more than there may be, have epochs left and the native numbers that are asked for, and peers send nothing
 -- but acknowledgements within their windows, in time as far as the clock tells. Then it ends with `Done`, or for want of memory.
-use Rattle.std.specs.Prelude.{◌≡◌, ◌⊎◌, ◌-◌, ℕ, false, List, [], drop, length, slice_get, take, Option, Some, IfSome, IsSomeAnd}
+use Rattle.std.specs.Prelude.{◌≡◌, ◌⊎◌, ℕ, false, List, [], drop, length, slice_get, take, Option, Some, IfSome, IsSome, IsSomeAnd}
 use Rattle.std.specs.List.{AllByRecursion}
 use Rattle.batch_worker.specs.Seen.{Seen}
 use Rattle.beat_config.specs.Document.{AreSettingsOf}
@@ -22,7 +22,7 @@ use Rattle.told_events.specs.Licence.{LieApart}
 use Rattle.wire_base.specs.declared.row.Row.{Row}
 use Rattle.beat_run.specs.Accounted.{TellRows}
 use Rattle.beat_run.specs.Asked.{AskForOnce}
-use Rattle.beat_run.specs.Cause.{AllSigns, LacksNumbers, Signs}
+use Rattle.beat_run.specs.Cause.{AllSigns, LacksNumbers, MayHaveGiven, Signs}
 use Rattle.beat_run.specs.EpochsLeft.{HaveEpochsLeft}
 use Rattle.beat_run.specs.Scanning.{ScansParted}
 use Rattle.beat_run.specs.declared.settings.TheConstants.{LIMIT}
@@ -77,16 +77,14 @@ EachSince P old new = IsSomeAnd old.outcomes (λ earlier. IsSomeAnd new.outcomes
 abbrev pub OfEachWire : (Seen → Seen → Type 0) → Signs → Signs → Type 0
 OfEachWire P before now = (place : ℕ) (old new : Seen) → slice_get before.wires place ≡ Some old → slice_get now.wires place ≡ Some new → P old new
 
--- no wire counted a fault, each connection was served, and none stood idle, or no two moments of the clock lie the timeout apart; the
--- last moment that the clock had given before the run counts as one of it
+-- no wire counted a fault, each connection was served, and none stood idle, or no two moments that the clock may have given the run lie the
+-- timeout apart
 pub record PeersServe (timeout : ℕ) (before now : Signs) : Type 0 where
   pub wires : OfEachWire (λ old new. ¬ (Rose old.faults new.faults)) before now
   pub served : OfEachWire (EachSince IsServed) before now
-  pub first : List ℕ
-  pub moments : List ℕ
-  pub first_are : before.moments ≡ Some first
-  pub moments_are : now.moments ≡ Some moments
-  pub in_time : OfEachWire (EachSince IsNotIdle) before now ⊎ (¬ (LieApart (drop (length first - 1) moments) timeout))
+  pub clock_told : IsSome before.moments
+  pub clock_tells : IsSome now.moments
+  pub in_time : OfEachWire (EachSince IsNotIdle) before now ⊎ ((moments : List ℕ) → MayHaveGiven before now moments → ¬ (LieApart moments timeout))
 
 -- ---- how many files there are
 

@@ -71,6 +71,7 @@ module _ {F W D K B : Type 0} (words : OutsideWords F W D K B) where
   signs_of now = record {
     folder = words.told now.folder;
     moments = words.moments now.clock;
+    questions = words.questions now.clock now.bell;
     wires = all_seen words.wires now.wires;
     counts = record {
       a_faults = words.disks.faults now.a;
@@ -85,6 +86,7 @@ module _ {F W D K B : Type 0} (words : OutsideWords F W D K B) where
   objects_of now = record {
     folder = words.told now.folder;
     moments = words.moments now.clock;
+    questions = words.questions now.clock now.bell;
     outcomes = map words.wires.outcomes now.wires;
     a = now.a;
     b = now.b;

@@ -1,7 +1,7 @@
 use Rattle.std.proofs.Common.{◌∙◌, ◌++◌, List, ap, map, sym, take}
+use Rattle.file_rows.proofs.ListedKeys.{one_more}
 use Rattle.prospect.specs.declared.listed.Listed.{Listed}
 use Rattle.beat_run.specs.Skipped.{skipped_for}
-use Rattle.run_steps.proofs.ListedKeys.{one_more}
 use Rattle.beat_run.proofs.Skipping.{skipped_more}
 use Rattle.beat_run.proofs.ending.skip_for.Goals as goal
 

@@ -40,7 +40,7 @@ returns-in-Err-clause-accounted g c = λ all.
       is = still disks c.one_choice.ensures no_settings all.areas.rows a b a b (rows_given disks a b all.areas)
           (λ rest. rows_held_as_read disks a b rest all.areas.first all.areas.second all.areas.rows all.areas.a_is all.areas.b_is all.areas.gives a b
           (c.unasked_disk_is_only_read.ensures a) (c.unasked_disk_is_only_read.ensures b)) (map g.W.Wire.outcomes c.args.outside.now.wires.now.items)
-          (g.F.Folder.told c.args.outside.now.folder.now) (g.K.Clock.moments c.args.outside.now.clock.now) c.in-Err.status all.tell.folder all.tell.moments (prepare_ended _ _ c.in-Err.status c.in-Err.ensures.ends)
+          (g.F.Folder.told c.args.outside.now.folder.now) (g.K.Clock.moments c.args.outside.now.clock.now) (questions_of g.K.Clock g.B.Bell c.args.outside.now.clock.now c.args.outside.now.bell.now) c.in-Err.status all.tell.folder all.tell.moments (prepare_ended _ _ c.in-Err.status c.in-Err.ensures.ends)
           (full_for_prepared disks no_settings _ _ _ c.in-Err.status c.in-Err.ensures.ends);
     }
 

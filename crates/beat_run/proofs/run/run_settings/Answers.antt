@@ -60,7 +60,7 @@ returns-in-Err-clause-accounted g c = λ all.
     let b = c.args.outside.now.b.now in
     still disks c.one_choice.ensures c.args.settings.now all.areas.rows a b c.open_registry.new.a c.open_registry.new.b (rows_given disks a b all.areas)
     (λ rest. c.open_registry.ensures.held all.areas.first all.areas.second all.areas.rows rest all.areas.a_is all.areas.b_is all.areas.gives) (map g.W.Wire.outcomes c.args.outside.now.wires.now.items)
-    (g.F.Folder.told c.args.outside.now.folder.now) (g.K.Clock.moments c.args.outside.now.clock.now) c.status_of_registry.result all.tell.folder all.tell.moments (registry_ended c.in-Err.error c.status_of_registry.result c.status_of_registry.ensures)
+    (g.F.Folder.told c.args.outside.now.folder.now) (g.K.Clock.moments c.args.outside.now.clock.now) (questions_of g.K.Clock g.B.Bell c.args.outside.now.clock.now c.args.outside.now.bell.now) c.status_of_registry.result all.tell.folder all.tell.moments (registry_ended c.in-Err.error c.status_of_registry.result c.status_of_registry.ensures)
     (full_for_registry disks c.args.settings.now _ c.in-Err.error c.status_of_registry.result c.status_of_registry.ensures)
 
 pub returns-in-Err-clause-at_rest : goal.returns-in-Err-clause-at_rest

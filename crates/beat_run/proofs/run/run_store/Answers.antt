@@ -23,7 +23,7 @@ use Rattle.beat_run.proofs.ScanShown.{each_some, parted_told, scanned_some, scan
 use Rattle.beat_run.proofs.SettingOut.{earlier, outset, set_out}
 use Rattle.beat_run.proofs.WiresFailed.{failed_by}
 use Rattle.run_steps.specs.Questions.{questions_of}
-use Rattle.run_steps.proofs.Questions.{asks_behind_the_clock, asks_nothing}
+use Rattle.run_steps.proofs.Questions.{asks_behind_the_clock, asks_nothing, given_once, was_asked_for}
 use Rattle.beat_run.proofs.run.run_store.Goals as goal
 
 -- ---- its scan
@@ -50,7 +50,8 @@ returns-in_err-scanned-clause-accounted g c = λ from opened tells.
     rw (p.1, p.2)
     (early disks c.one_choice.ensures c.args.settings.now c.args.store.rows from.a from.b c.args.outside.now.a.now c.args.outside.now.b.now opened.gave opened.held (map g.W.Wire.outcomes c.args.outside.now.wires.now.items)
     (g.F.Folder.told c.args.outside.now.folder.now) (g.F.Folder.told c.scan.new.folder) (g.K.Clock.moments c.args.outside.now.clock.now) (g.K.Clock.moments c.scan.new.clock)
-    c.in_err-scanned.ensures.moment_given_first.0 _ tells.folder tells.moments c.in_err-scanned.ensures.moment_given_first.1
+    (questions_of g.K.Clock g.B.Bell c.args.outside.now.clock.now c.args.outside.now.bell.now) (questions_of g.K.Clock g.B.Bell c.scan.new.clock c.args.outside.now.bell.now)
+    c.in_err-scanned.ensures.moment_given_first.0 _ tells.folder tells.moments c.in_err-scanned.ensures.moment_given_first.1 c.scan.ensures.asked
     (each_some (g.F.Folder.told c.args.outside.now.folder.now) _ _ (λ history shows. scanned_some c.args.settings.now c.requires.in_range history _ (g.F.Folder.told c.scan.new.folder) _ shows) (rw inputs at c.in_err-scanned.ensures.shows_end))
     (ends_without_report _ (scan_ended _ _ _ c.in_err-scanned.ensures.ends))
     (full_for_scan disks c.args.settings.now _ _ _ opened.gave (rw (inputs, rows) at c.in_err-scanned.ensures.shows_end)))
@@ -65,7 +66,8 @@ returns-in_err-parts-clause-accounted g c = λ from opened tells.
     rw (p.1, p.2)
     (early disks c.one_choice.ensures c.args.settings.now c.args.store.rows from.a from.b c.args.outside.now.a.now c.args.outside.now.b.now opened.gave opened.held (map g.W.Wire.outcomes c.args.outside.now.wires.now.items)
     (g.F.Folder.told c.args.outside.now.folder.now) (g.F.Folder.told c.scan.new.folder) (g.K.Clock.moments c.args.outside.now.clock.now) (g.K.Clock.moments c.scan.new.clock)
-    c.in_ok-scanned.scanned.now.0 NoMemory tells.folder tells.moments c.in_ok-scanned.ensures.moment_given
+    (questions_of g.K.Clock g.B.Bell c.args.outside.now.clock.now c.args.outside.now.bell.now) (questions_of g.K.Clock g.B.Bell c.scan.new.clock c.args.outside.now.bell.now)
+    c.in_ok-scanned.scanned.now.0 NoMemory tells.folder tells.moments c.in_ok-scanned.ensures.moment_given c.scan.ensures.asked
     (each_some (g.F.Folder.told c.args.outside.now.folder.now) _ _ (λ history scans. scanned_whole c.args.settings.now c.requires.in_range history _ _ (g.F.Folder.told c.scan.new.folder) scans.parted) (rw inputs at c.in_ok-scanned.ensures.scanned)) tt tt)
 
 -- ---- or for a crew
@@ -79,10 +81,11 @@ returns-in_err-worked-clause-accounted g c = λ from opened tells.
     let back = outcomes_seen wires c.run_over.new.around.wires.now.items c.args.outside.now.wires.now.items c.in_err-worked.ensures.back in
     let a_same : c.run_over.new.storing.a.now ≡ c.args.outside.now.a.now = ap (λ (s : Storing g.row.D.Denot). s.a.now) c.in_err-worked.ensures.untouched.0 in
     let b_same : c.run_over.new.storing.b.now ≡ c.args.outside.now.b.now = ap (λ (s : Storing g.row.D.Denot). s.b.now) c.in_err-worked.ensures.untouched.0 in
-    rw (p.1, p.2, a_same, b_same, c.in_err-worked.ensures.untouched.1, c.in_err-worked.ensures.untouched.2, back)
+    rw (p.1, p.2, a_same, b_same, c.in_err-worked.ensures.untouched.1, c.in_err-worked.ensures.untouched.2, c.in_err-worked.ensures.untouched.3, back)
     (early disks c.one_choice.ensures c.args.settings.now c.args.store.rows from.a from.b c.args.outside.now.a.now c.args.outside.now.b.now opened.gave opened.held (map g.W.Wire.outcomes c.args.outside.now.wires.now.items)
     (g.F.Folder.told c.args.outside.now.folder.now) (g.F.Folder.told c.scan.new.folder) (g.K.Clock.moments c.args.outside.now.clock.now) (g.K.Clock.moments c.scan.new.clock)
-    c.in_ok-scanned.scanned.now.0 NoMemory tells.folder tells.moments c.in_ok-scanned.ensures.moment_given
+    (questions_of g.K.Clock g.B.Bell c.args.outside.now.clock.now c.args.outside.now.bell.now) (questions_of g.K.Clock g.B.Bell c.scan.new.clock c.args.outside.now.bell.now)
+    c.in_ok-scanned.scanned.now.0 NoMemory tells.folder tells.moments c.in_ok-scanned.ensures.moment_given c.scan.ensures.asked
     (each_some (g.F.Folder.told c.args.outside.now.folder.now) _ _ (λ history scans. scanned_whole c.args.settings.now c.requires.in_range history _ _ (g.F.Folder.told c.scan.new.folder) scans.parted) (rw inputs at c.in_ok-scanned.ensures.scanned)) tt tt)
 
 -- ---- files were followed
@@ -95,32 +98,35 @@ returns-clause-cause g c = λ from opened.
     let before : Signs = record {
       folder = g.F.Folder.told c.args.outside.now.folder.now;
       moments = g.K.Clock.moments c.args.outside.now.clock.now;
+      questions = questions_of g.K.Clock g.B.Bell c.args.outside.now.clock.now c.args.outside.now.bell.now;
       wires = all_seen wires c.args.outside.now.wires.now.items;
       counts = record { a_faults = g.D.Disk.faults c.args.outside.now.a.now; b_faults = g.D.Disk.faults c.args.outside.now.b.now; folder_faults = g.F.Folder.faults c.args.outside.now.folder.now; rings = g.B.Bell.rings c.args.outside.now.bell.now };
     } in
     let now : Signs = record {
       folder = g.F.Folder.told c.run_over.new.around.folder.now;
       moments = g.K.Clock.moments c.run_over.new.around.clock.now;
+      questions = questions_of g.K.Clock g.B.Bell c.run_over.new.around.clock.now c.run_over.new.around.bell.now;
       wires = all_seen wires c.run_over.new.around.wires.now.items;
       counts = record { a_faults = g.D.Disk.faults c.run_over.new.storing.a.now; b_faults = g.D.Disk.faults c.run_over.new.storing.b.now; folder_faults = g.F.Folder.faults c.run_over.new.around.folder.now; rings = g.B.Bell.rings c.run_over.new.around.bell.now };
     } in
     (caused_ending c.args.settings.now c.in_ok-scanned.scanned.listed.items c.in_ok-scanned.scanned.doubled.items before now (g.F.Folder.told c.scan.new.folder) (g.F.Folder.faults c.scan.new.folder) c.scan.ensures.folder_faults_never_fall
     (parted_told c.args.settings.now.inputs (g.F.Folder.told c.args.outside.now.folder.now) (g.F.Folder.told c.scan.new.folder) c.in_ok-scanned.scanned (rw inputs at c.in_ok-scanned.ensures.scanned))
-    (λ some. shown_goes_further (g.F.Folder.told c.scan.new.folder) _ _
+    (λ some. shown_goes_further _ (g.F.Folder.told c.scan.new.folder) _ _
     (c.in_ok-worked.ensures.ends
     (earlier disks wires c.args.settings.now c.requires.in_range
     c.in_ok-parts.parts.desk.id c.in_ok-parts.parts.keeper c.args.store c.in_ok-parts.ensures.keeper c.in_ok-parts.ensures.store c.args.outside.now.wires.now.items from
-    c.args.outside.now.a.now c.args.outside.now.b.now opened c.in_ok-scanned.scanned.listed.items c.in_ok-scanned.scanned.doubled.items c.in_ok-scanned.scanned.now.0
+    c.args.outside.now.a.now c.args.outside.now.b.now opened c.in_ok-scanned.scanned.listed.items c.in_ok-scanned.scanned.doubled.items c.in_ok-scanned.scanned.now.0 (questions_of g.K.Clock g.B.Bell c.args.outside.now.clock.now c.args.outside.now.bell.now)
     (g.K.Clock.moments c.args.outside.now.clock.now) (g.K.Clock.moments c.scan.new.clock) c.in_ok-scanned.ensures.moment_given (g.F.Folder.told c.scan.new.folder) (rw inputs at c.in_ok-scanned.ensures.of_inputs))
     (set_out disks wires c.args.settings.now c.requires.in_range
     c.in_ok-parts.parts.desk.id c.in_ok-parts.parts.keeper c.args.store c.in_ok-parts.ensures.keeper c.in_ok-parts.ensures.store c.args.outside.now.wires.now.items from
-    c.args.outside.now.a.now c.args.outside.now.b.now opened c.in_ok-scanned.scanned.listed.items c.in_ok-scanned.scanned.doubled.items c.in_ok-scanned.scanned.now.0
+    c.args.outside.now.a.now c.args.outside.now.b.now opened c.in_ok-scanned.scanned.listed.items c.in_ok-scanned.scanned.doubled.items c.in_ok-scanned.scanned.now.0 (questions_of g.K.Clock g.B.Bell c.args.outside.now.clock.now c.args.outside.now.bell.now)
     (g.K.Clock.moments c.args.outside.now.clock.now) (g.K.Clock.moments c.scan.new.clock) c.in_ok-scanned.ensures.moment_given (g.F.Folder.told c.scan.new.folder) (rw inputs at c.in_ok-scanned.ensures.of_inputs))).1.ends.stands.files.shown)
     c.in_ok-worked.worked.met c.finish.result
     c.in_ok-worked.ensures.cause
     c.in_ok-worked.ensures.unnumbered
     (failed_by wires c.args.settings.now c.args.outside.now.wires.now.items c.run_over.new.around.wires.now.items before now refl refl c.in_ok-scanned.scanned.now.0 (g.K.Clock.moments c.scan.new.clock)
-    c.in_ok-scanned.ensures.moment_given _ _ _ c.in_ok-worked.worked.met c.in_ok-worked.ensures.cause c.in_ok-worked.ensures.failing)
+    c.in_ok-scanned.ensures.moment_given c.run_over.ensures.clock_goes_on (g.K.Clock.questions c.scan.new.clock) c.scan.ensures.asked c.run_over.ensures.asks.clock c.run_over.ensures.asks.gives
+    _ _ _ c.in_ok-worked.worked.met c.in_ok-worked.ensures.cause c.in_ok-worked.ensures.failing)
     c.finish.ensures.stands c.finish.ensures.refused)
 
 pub returns-clause-accounted : goal.returns-clause-accounted
@@ -131,15 +137,15 @@ returns-clause-accounted g c = λ from opened tells.
     let of = is_met_of c.args.settings.now.output.workers _ _ _ c.in_ok-worked.worked.met c.in_ok-worked.ensures.cause in
     let before = earlier disks wires c.args.settings.now c.requires.in_range
     c.in_ok-parts.parts.desk.id c.in_ok-parts.parts.keeper c.args.store c.in_ok-parts.ensures.keeper c.in_ok-parts.ensures.store c.args.outside.now.wires.now.items from
-    c.args.outside.now.a.now c.args.outside.now.b.now opened c.in_ok-scanned.scanned.listed.items c.in_ok-scanned.scanned.doubled.items c.in_ok-scanned.scanned.now.0
+    c.args.outside.now.a.now c.args.outside.now.b.now opened c.in_ok-scanned.scanned.listed.items c.in_ok-scanned.scanned.doubled.items c.in_ok-scanned.scanned.now.0 (questions_of g.K.Clock g.B.Bell c.args.outside.now.clock.now c.args.outside.now.bell.now)
     (g.K.Clock.moments c.args.outside.now.clock.now) (g.K.Clock.moments c.scan.new.clock) c.in_ok-scanned.ensures.moment_given (g.F.Folder.told c.scan.new.folder) (rw inputs at c.in_ok-scanned.ensures.of_inputs) in
     let sets = set_out disks wires c.args.settings.now c.requires.in_range
     c.in_ok-parts.parts.desk.id c.in_ok-parts.parts.keeper c.args.store c.in_ok-parts.ensures.keeper c.in_ok-parts.ensures.store c.args.outside.now.wires.now.items from
-    c.args.outside.now.a.now c.args.outside.now.b.now opened c.in_ok-scanned.scanned.listed.items c.in_ok-scanned.scanned.doubled.items c.in_ok-scanned.scanned.now.0
+    c.args.outside.now.a.now c.args.outside.now.b.now opened c.in_ok-scanned.scanned.listed.items c.in_ok-scanned.scanned.doubled.items c.in_ok-scanned.scanned.now.0 (questions_of g.K.Clock g.B.Bell c.args.outside.now.clock.now c.args.outside.now.bell.now)
     (g.K.Clock.moments c.args.outside.now.clock.now) (g.K.Clock.moments c.scan.new.clock) c.in_ok-scanned.ensures.moment_given (g.F.Folder.told c.scan.new.folder) (rw inputs at c.in_ok-scanned.ensures.of_inputs) in
     let start = began_with wires (outset disks wires c.args.settings.now c.requires.in_range
     c.in_ok-parts.parts.desk.id c.in_ok-parts.parts.keeper c.args.store c.in_ok-parts.ensures.keeper c.in_ok-parts.ensures.store c.args.outside.now.wires.now.items from
-    c.args.outside.now.a.now c.args.outside.now.b.now opened c.in_ok-scanned.scanned.listed.items c.in_ok-scanned.scanned.doubled.items c.in_ok-scanned.scanned.now.0
+    c.args.outside.now.a.now c.args.outside.now.b.now opened c.in_ok-scanned.scanned.listed.items c.in_ok-scanned.scanned.doubled.items c.in_ok-scanned.scanned.now.0 (questions_of g.K.Clock g.B.Bell c.args.outside.now.clock.now c.args.outside.now.bell.now)
     (g.K.Clock.moments c.args.outside.now.clock.now) (g.K.Clock.moments c.scan.new.clock) c.in_ok-scanned.ensures.moment_given (g.F.Folder.told c.scan.new.folder) (rw inputs at c.in_ok-scanned.ensures.of_inputs)) before in
     let ends = c.in_ok-worked.ensures.ends before sets in
     let keeper = c.in_ok-parts.ensures.keeper in
@@ -147,21 +153,25 @@ returns-clause-accounted g c = λ from opened tells.
     let few = subst (λ (l : List Row). AreFewFiles l c.in_ok-scanned.scanned.listed.items) rows c.in_ok-scanned.ensures.few in
     let room = subst (λ (l : List Row). HaveRoomBefore l c.in_ok-scanned.scanned.listed.items (length c.in_ok-scanned.scanned.listed.items)) rows c.in_ok-scanned.ensures.room in
     let keeper_is : c.keeper-2-1.given.0 ≡ c.run_over.new.storing.keeper.now = c.keeper-2-1.given.1 (sym c.run_over.ensures.same_keeper) in
-    (worked disks start c.requires.in_range (map g.W.Wire.outcomes c.args.outside.now.wires.now.items) _ c.in_ok-worked.worked.met c.keeper-2-1.given.0.shipped c.keeper-2-1.given.0.dropped
-    c.in_ok-scanned.scanned refl refl c.in_ok-worked.worked.passed.items
+    (worked disks start c.requires.in_range refl (map g.W.Wire.outcomes c.args.outside.now.wires.now.items) _ c.in_ok-worked.worked.met c.keeper-2-1.given.0.shipped c.keeper-2-1.given.0.dropped
+    c.in_ok-scanned.scanned refl refl c.in_ok-worked.worked.passed.items (questions_of g.K.Clock g.B.Bell c.args.outside.now.clock.now c.args.outside.now.bell.now)
     (g.F.Folder.told c.args.outside.now.folder.now) (ended c.finish.result) tells.folder (rw inputs at c.in_ok-scanned.ensures.scanned)
-    (shown_goes_further (g.F.Folder.told c.scan.new.folder) _ _ ends.1.ends.stands.files.shown)
+    (shown_goes_further _ (g.F.Folder.told c.scan.new.folder) _ _ ends.1.ends.stands.files.shown)
     (record { gave = sets.gave; few = few; room = room })
     (met_for_ending c.in_ok-scanned.scanned.listed.items c.args.settings.now.output.attempts c.in_ok-worked.worked.met c.finish.result of c.finish.ensures.stands c.finish.ensures.refused)
     (full_for_ending disks c.args.settings.now _ start.opening sets.gave c.in_ok-scanned.scanned.listed.items c.args.settings.now.output.attempts c.in_ok-worked.worked.met c.finish.result of
-    (has_none _ start _ _ _ (shown_goes_further (g.F.Folder.told c.scan.new.folder) _ _ ends.1.ends.stands.files.shown) (g.F.Folder.told c.args.outside.now.folder.now)
+    (has_none _ start _ _ _ (shown_goes_further _ (g.F.Folder.told c.scan.new.folder) _ _ ends.1.ends.stands.files.shown) (g.F.Folder.told c.args.outside.now.folder.now)
     (parted_told c.args.settings.now.inputs (g.F.Folder.told c.args.outside.now.folder.now) (g.F.Folder.told c.scan.new.folder) c.in_ok-scanned.scanned (rw inputs at c.in_ok-scanned.ensures.scanned))
     c.in_ok-worked.worked.met ends.1)
     c.finish.ensures.stands c.finish.ensures.refused)
     (report_over _ c.keeper-2-1.given.0.store.rows (all_skipped c.in_ok-worked.worked.passed.items c.in_ok-scanned.scanned) c.keeper-2-1.given.0.shipped c.keeper-2-1.given.0.dropped c.in_ok-worked.worked.met c.finish.result c.finish.ensures.telling c.finish.ensures.report)
+    (λ moments begin since.
+    was_asked_for (g.K.Clock.questions c.args.outside.now.clock.now) (g.K.Clock.questions c.scan.new.clock) (g.K.Clock.questions c.run_over.new.around.clock.now) c.scan.ensures.asked c.run_over.ensures.asks.clock
+    (g.K.Clock.moments c.args.outside.now.clock.now) (g.K.Clock.moments c.scan.new.clock) (g.K.Clock.moments c.run_over.new.around.clock.now) c.in_ok-scanned.scanned.now.0 moments
+    c.in_ok-scanned.ensures.moment_given begin since c.run_over.ensures.asks.gives)
     (λ folder has.
     worked_over disks c.args.settings.now c.in_ok-parts.parts.keeper.store.rows c.in_ok-scanned.scanned.listed.items
-    (keys_are_known start folder has) (length folder.scanned.events) _ c.in_ok-worked.worked.met _ _ _
+    (keys_are_known start folder has) c.in_ok-scanned.scanned.now.0 (length folder.scanned.events) _ c.in_ok-worked.worked.met _ _ _
     (rw (← keeper_is) at c.in_ok-worked.ensures.accounted before folder sets has tells.moments (wires_tell g.W.Wire.outcomes c.run_over.new.around.wires.now.items tells.wires))))
 
 pub returns-clause-at_rest : goal.returns-clause-at_rest
@@ -172,11 +182,11 @@ returns-clause-at_rest g c = λ from opened some rest followed.
     let ends = c.in_ok-worked.ensures.ends
     (earlier disks wires c.args.settings.now c.requires.in_range
     c.in_ok-parts.parts.desk.id c.in_ok-parts.parts.keeper c.args.store c.in_ok-parts.ensures.keeper c.in_ok-parts.ensures.store c.args.outside.now.wires.now.items from
-    c.args.outside.now.a.now c.args.outside.now.b.now opened c.in_ok-scanned.scanned.listed.items c.in_ok-scanned.scanned.doubled.items c.in_ok-scanned.scanned.now.0
+    c.args.outside.now.a.now c.args.outside.now.b.now opened c.in_ok-scanned.scanned.listed.items c.in_ok-scanned.scanned.doubled.items c.in_ok-scanned.scanned.now.0 (questions_of g.K.Clock g.B.Bell c.args.outside.now.clock.now c.args.outside.now.bell.now)
     (g.K.Clock.moments c.args.outside.now.clock.now) (g.K.Clock.moments c.scan.new.clock) c.in_ok-scanned.ensures.moment_given (g.F.Folder.told c.scan.new.folder) (rw inputs at c.in_ok-scanned.ensures.of_inputs))
     (set_out disks wires c.args.settings.now c.requires.in_range
     c.in_ok-parts.parts.desk.id c.in_ok-parts.parts.keeper c.args.store c.in_ok-parts.ensures.keeper c.in_ok-parts.ensures.store c.args.outside.now.wires.now.items from
-    c.args.outside.now.a.now c.args.outside.now.b.now opened c.in_ok-scanned.scanned.listed.items c.in_ok-scanned.scanned.doubled.items c.in_ok-scanned.scanned.now.0
+    c.args.outside.now.a.now c.args.outside.now.b.now opened c.in_ok-scanned.scanned.listed.items c.in_ok-scanned.scanned.doubled.items c.in_ok-scanned.scanned.now.0 (questions_of g.K.Clock g.B.Bell c.args.outside.now.clock.now c.args.outside.now.bell.now)
     (g.K.Clock.moments c.args.outside.now.clock.now) (g.K.Clock.moments c.scan.new.clock) c.in_ok-scanned.ensures.moment_given (g.F.Folder.told c.scan.new.folder) (rw inputs at c.in_ok-scanned.ensures.of_inputs)) in
     let left = left_by_ending c.in_ok-scanned.scanned.listed.items c.args.settings.now.output.attempts c.in_ok-worked.worked.met c.finish.result c.finish.ensures.stands c.finish.ensures.refused followed in
     let keeper_is : c.keeper-2-1.given.0 ≡ c.run_over.new.storing.keeper.now = c.keeper-2-1.given.1 (sym c.run_over.ensures.same_keeper) in
@@ -190,11 +200,11 @@ returns-clause-reported g c = λ from opened some rest.
     let ends = c.in_ok-worked.ensures.ends
     (earlier disks wires c.args.settings.now c.requires.in_range
     c.in_ok-parts.parts.desk.id c.in_ok-parts.parts.keeper c.args.store c.in_ok-parts.ensures.keeper c.in_ok-parts.ensures.store c.args.outside.now.wires.now.items from
-    c.args.outside.now.a.now c.args.outside.now.b.now opened c.in_ok-scanned.scanned.listed.items c.in_ok-scanned.scanned.doubled.items c.in_ok-scanned.scanned.now.0
+    c.args.outside.now.a.now c.args.outside.now.b.now opened c.in_ok-scanned.scanned.listed.items c.in_ok-scanned.scanned.doubled.items c.in_ok-scanned.scanned.now.0 (questions_of g.K.Clock g.B.Bell c.args.outside.now.clock.now c.args.outside.now.bell.now)
     (g.K.Clock.moments c.args.outside.now.clock.now) (g.K.Clock.moments c.scan.new.clock) c.in_ok-scanned.ensures.moment_given (g.F.Folder.told c.scan.new.folder) (rw inputs at c.in_ok-scanned.ensures.of_inputs))
     (set_out disks wires c.args.settings.now c.requires.in_range
     c.in_ok-parts.parts.desk.id c.in_ok-parts.parts.keeper c.args.store c.in_ok-parts.ensures.keeper c.in_ok-parts.ensures.store c.args.outside.now.wires.now.items from
-    c.args.outside.now.a.now c.args.outside.now.b.now opened c.in_ok-scanned.scanned.listed.items c.in_ok-scanned.scanned.doubled.items c.in_ok-scanned.scanned.now.0
+    c.args.outside.now.a.now c.args.outside.now.b.now opened c.in_ok-scanned.scanned.listed.items c.in_ok-scanned.scanned.doubled.items c.in_ok-scanned.scanned.now.0 (questions_of g.K.Clock g.B.Bell c.args.outside.now.clock.now c.args.outside.now.bell.now)
     (g.K.Clock.moments c.args.outside.now.clock.now) (g.K.Clock.moments c.scan.new.clock) c.in_ok-scanned.ensures.moment_given (g.F.Folder.told c.scan.new.folder) (rw inputs at c.in_ok-scanned.ensures.of_inputs)) in
     let keeper = c.keeper-2-1.given.0 in
     let keeper_is : keeper ≡ c.run_over.new.storing.keeper.now = c.keeper-2-1.given.1 (sym c.run_over.ensures.same_keeper) in
@@ -221,7 +231,7 @@ tails_by_two before mid after files kept few closed room =
 pub returns-in_err-scanned-clause-goes_on : goal.returns-in_err-scanned-clause-goes_on
 returns-in_err-scanned-clause-goes_on g c = record {
   clock = c.scan.ensures.clock_goes_on;
-  asks = asks_behind_the_clock (questions_of g.K.Clock g.B.Bell c.args.outside.now.clock.now c.args.outside.now.bell.now) (questions_of g.K.Clock g.B.Bell c.scan.new.clock c.args.outside.now.bell.now) (questions_of g.K.Clock g.B.Bell c.scan.new.clock c.args.outside.now.bell.now) c.scan.ensures.asked refl (asks_nothing 1 (questions_of g.K.Clock g.B.Bell c.scan.new.clock c.args.outside.now.bell.now));
+  asks = asks_behind_the_clock (questions_of g.K.Clock g.B.Bell c.args.outside.now.clock.now c.args.outside.now.bell.now) (questions_of g.K.Clock g.B.Bell c.scan.new.clock c.args.outside.now.bell.now) (questions_of g.K.Clock g.B.Bell c.scan.new.clock c.args.outside.now.bell.now) c.scan.ensures.asked refl (given_once (g.K.Clock.moments c.args.outside.now.clock.now) c.in_err-scanned.ensures.moment_given_first.0 (g.K.Clock.moments c.scan.new.clock) c.in_err-scanned.ensures.moment_given_first.1) (asks_nothing 1 (questions_of g.K.Clock g.B.Bell c.scan.new.clock c.args.outside.now.bell.now));
   wires = refl;
   tails = tails_by_one (g.F.Folder.open_tails c.args.outside.now.folder.now) (g.F.Folder.open_tails c.scan.new.folder) c.scan.ensures.open_tails_kept;
   links = λ few. refl;
@@ -232,7 +242,7 @@ returns-in_err-scanned-clause-goes_on g c = record {
 pub returns-in_err-parts-clause-goes_on : goal.returns-in_err-parts-clause-goes_on
 returns-in_err-parts-clause-goes_on g c = record {
   clock = c.scan.ensures.clock_goes_on;
-  asks = asks_behind_the_clock (questions_of g.K.Clock g.B.Bell c.args.outside.now.clock.now c.args.outside.now.bell.now) (questions_of g.K.Clock g.B.Bell c.scan.new.clock c.args.outside.now.bell.now) (questions_of g.K.Clock g.B.Bell c.scan.new.clock c.args.outside.now.bell.now) c.scan.ensures.asked refl (asks_nothing 1 (questions_of g.K.Clock g.B.Bell c.scan.new.clock c.args.outside.now.bell.now));
+  asks = asks_behind_the_clock (questions_of g.K.Clock g.B.Bell c.args.outside.now.clock.now c.args.outside.now.bell.now) (questions_of g.K.Clock g.B.Bell c.scan.new.clock c.args.outside.now.bell.now) (questions_of g.K.Clock g.B.Bell c.scan.new.clock c.args.outside.now.bell.now) c.scan.ensures.asked refl (given_once (g.K.Clock.moments c.args.outside.now.clock.now) c.in_ok-scanned.scanned.now.0 (g.K.Clock.moments c.scan.new.clock) c.in_ok-scanned.ensures.moment_given) (asks_nothing 1 (questions_of g.K.Clock g.B.Bell c.scan.new.clock c.args.outside.now.bell.now));
   wires = refl;
   tails = tails_by_one (g.F.Folder.open_tails c.args.outside.now.folder.now) (g.F.Folder.open_tails c.scan.new.folder) c.scan.ensures.open_tails_kept;
   links = λ few. refl;
@@ -244,7 +254,7 @@ pub returns-in_err-worked-clause-goes_on : goal.returns-in_err-worked-clause-goe
 returns-in_err-worked-clause-goes_on g c =
     record {
       clock = clock_by_two (g.K.Clock.moments c.args.outside.now.clock.now) (g.K.Clock.moments c.scan.new.clock) (g.K.Clock.moments c.run_over.new.around.clock.now) c.scan.ensures.clock_goes_on c.run_over.ensures.clock_goes_on;
-      asks = asks_behind_the_clock (questions_of g.K.Clock g.B.Bell c.args.outside.now.clock.now c.args.outside.now.bell.now) (questions_of g.K.Clock g.B.Bell c.scan.new.clock c.args.outside.now.bell.now) (questions_of g.K.Clock g.B.Bell c.run_over.new.around.clock.now c.run_over.new.around.bell.now) c.scan.ensures.asked refl c.run_over.ensures.asks;
+      asks = asks_behind_the_clock (questions_of g.K.Clock g.B.Bell c.args.outside.now.clock.now c.args.outside.now.bell.now) (questions_of g.K.Clock g.B.Bell c.scan.new.clock c.args.outside.now.bell.now) (questions_of g.K.Clock g.B.Bell c.run_over.new.around.clock.now c.run_over.new.around.bell.now) c.scan.ensures.asked refl (given_once (g.K.Clock.moments c.args.outside.now.clock.now) c.in_ok-scanned.scanned.now.0 (g.K.Clock.moments c.scan.new.clock) c.in_ok-scanned.ensures.moment_given) c.run_over.ensures.asks;
       wires = c.run_over.ensures.as_many_wires;
       tails = λ few. tails_by_two (g.F.Folder.open_tails c.args.outside.now.folder.now) (g.F.Folder.open_tails c.scan.new.folder) (g.F.Folder.open_tails c.run_over.new.around.folder.now) (length c.in_ok-scanned.scanned.listed.items)
           c.scan.ensures.open_tails_kept c.in_ok-scanned.ensures.few_listed c.run_over.ensures.tails_closed few;
@@ -257,7 +267,7 @@ pub returns-clause-goes_on : goal.returns-clause-goes_on
 returns-clause-goes_on g c =
     record {
       clock = clock_by_two (g.K.Clock.moments c.args.outside.now.clock.now) (g.K.Clock.moments c.scan.new.clock) (g.K.Clock.moments c.run_over.new.around.clock.now) c.scan.ensures.clock_goes_on c.run_over.ensures.clock_goes_on;
-      asks = asks_behind_the_clock (questions_of g.K.Clock g.B.Bell c.args.outside.now.clock.now c.args.outside.now.bell.now) (questions_of g.K.Clock g.B.Bell c.scan.new.clock c.args.outside.now.bell.now) (questions_of g.K.Clock g.B.Bell c.run_over.new.around.clock.now c.run_over.new.around.bell.now) c.scan.ensures.asked refl c.run_over.ensures.asks;
+      asks = asks_behind_the_clock (questions_of g.K.Clock g.B.Bell c.args.outside.now.clock.now c.args.outside.now.bell.now) (questions_of g.K.Clock g.B.Bell c.scan.new.clock c.args.outside.now.bell.now) (questions_of g.K.Clock g.B.Bell c.run_over.new.around.clock.now c.run_over.new.around.bell.now) c.scan.ensures.asked refl (given_once (g.K.Clock.moments c.args.outside.now.clock.now) c.in_ok-scanned.scanned.now.0 (g.K.Clock.moments c.scan.new.clock) c.in_ok-scanned.ensures.moment_given) c.run_over.ensures.asks;
       wires = c.run_over.ensures.as_many_wires;
       tails = λ few. tails_by_two (g.F.Folder.open_tails c.args.outside.now.folder.now) (g.F.Folder.open_tails c.scan.new.folder) (g.F.Folder.open_tails c.run_over.new.around.folder.now) (length c.in_ok-scanned.scanned.listed.items)
           c.scan.ensures.open_tails_kept c.in_ok-scanned.ensures.few_listed c.run_over.ensures.tails_closed few;

@@ -34,7 +34,8 @@ returns-in-Ok-clause-accounted_for_where_all_tell g c =
     let wires_is : c.wires-1.given.0 ≡ c.run.new.outside.wires.now = c.wires-1.given.1 (sym c.run.ensures.same_objects.wires) in
     let a_is : c.area_a-1.given.0 ≡ c.run.new.outside.a.now = c.area_a-1.given.1 (sym c.run.ensures.same_objects.a) in
     let b_is : c.area_b-1.given.0 ≡ c.run.new.outside.b.now = c.area_b-1.given.1 (sym c.run.ensures.same_objects.b) in
-    rw (folder_is, clock_is, wires_is, a_is, b_is)
+    let bell_is : c.bell-1.given.0 ≡ c.run.new.outside.bell.now = c.bell-1.given.1 (sym c.run.ensures.same_objects.bell) in
+    rw (folder_is, clock_is, wires_is, a_is, b_is, bell_is)
     (λ all. report_printed (disks_of g.D.Disk) (g.R.Source.left c.args.settings.now) _ _ _ _ (g.S.Sink.faults c.args.out.now) (g.S.Sink.faults c.print_report.new.out) c.in-Ok.ending.status c.print_report.result c.print_report.ensures.ends
     (λ same. printed_behind c.in-Ok.ending.report (g.S.Sink.written c.args.out.now) (g.S.Sink.written c.print_report.new.out) (c.print_report.ensures.printed same)) (rw c.in-Ok.is at c.run.ensures.accounted all))
 
@@ -111,7 +112,8 @@ returns-in-Err-clause-accounted_for_where_all_tell g c =
     let wires_is : c.wires-1.given.0 ≡ c.run.new.outside.wires.now = c.wires-1.given.1 (sym c.run.ensures.same_objects.wires) in
     let a_is : c.area_a-1.given.0 ≡ c.run.new.outside.a.now = c.area_a-1.given.1 (sym c.run.ensures.same_objects.a) in
     let b_is : c.area_b-1.given.0 ≡ c.run.new.outside.b.now = c.area_b-1.given.1 (sym c.run.ensures.same_objects.b) in
-    rw (folder_is, clock_is, wires_is, a_is, b_is)
+    let bell_is : c.bell-1.given.0 ≡ c.run.new.outside.bell.now = c.bell-1.given.1 (sym c.run.ensures.same_objects.bell) in
+    rw (folder_is, clock_is, wires_is, a_is, b_is, bell_is)
     (λ all. status_printed disks (g.R.Source.left c.args.settings.now) _ _ _ _ c.in-Err.status c.print_status.result _ c.print_status.ensures.printed (rw c.in-Err.is at c.run.ensures.ends) (rw c.in-Err.is at c.run.ensures.accounted all))
 
 pub returns-in-Err-clause-reported_rows_are_stored : goal.returns-in-Err-clause-reported_rows_are_stored
