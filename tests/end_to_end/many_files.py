@@ -10,7 +10,7 @@ import example
 import program
 from area import MAX_BODY, fingerprint_row, key_of, row
 from peer import Peer
-from shipping import ONCE, Shipping, lines_of, now
+from shipping import ONCE, Shipping, lines_of, now, places_of
 
 # the files of the example, by the inputs that cover them
 EXAMPLE = {
@@ -20,6 +20,8 @@ EXAMPLE = {
 # the bytes of its fingerprints
 EXAMPLE_FINGERPRINT = 128
 SMALL_FILES = 2_000
+# so many names has one file that two inputs list: more often together than there may be files. A file system allows 65,000 names at most
+HARD_LINKS = 32_769
 # so many files may be open at once in a run that is to follow more of them
 OPEN_FILES = 64
 # so many descriptors a run has for itself, at most
@@ -92,6 +94,21 @@ class ManyFiles(Shipping):
             ran = self.run_for(program.settings_text(logs / "*.log", peer.host))
         self.assert_shipped(ran, peer, [("w", str(path)) for path in logs.iterdir()], since)
         self.assertGreater(self.area.stat().st_size, MAX_BODY)
+
+    def test_hard_links_of_one_file(self):
+        """To each input they are one file, which is sent by its first path."""
+        logs = self.folder / "logs"
+        logs.mkdir()
+        first = logs / "00000.log"
+        first.write_text("line\n")
+        for number in range(1, HARD_LINKS):
+            os.link(first, logs / f"{number:05}.log")
+        with Peer() as peer:
+            inputs = "".join(f'[[inputs]]\nid = "{name}"\npaths = ["{logs}/*.log"]\nfile_identity = "native"\n' for name in "vw")
+            ran = self.run_for(f'{inputs}[output]\nhosts = ["{peer.host}"]\n')
+        self.assertEqual((ran.returncode, ran.stdout.count(b" doubled\n")), (0, HARD_LINKS - 1), ran.stdout[-100:])
+        self.assertEqual(places_of(peer.payloads), [(str(first), 0, "line")] * 2)
+        self.assertEqual([(it["path"], it["offset"]) for it in self.stored_rows()], [(str(first), len("line\n"))] * 2)
 
     def test_more_files_than_may_be_open(self):
         """Those that cannot be opened have no row, and the others are shipped."""
