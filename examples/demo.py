@@ -7,6 +7,7 @@ The receiver is the proved beat_sink, or without it a script. All files that a r
 """
 
 import json
+import os
 import re
 import shutil
 import subprocess
@@ -26,6 +27,8 @@ from receiver import free_port  # noqa: E402
 # seconds that building the program and running it may take, and between two signs of life
 PATIENCE = 600
 SIGN_SECONDS = 10
+# about how many seconds that takes on two idle processors or more
+UNPROVED_SECONDS = 110
 # so many lines make four events
 GENERATED_LINES = 10
 
@@ -63,6 +66,15 @@ def receiving(folder):
         return Peer()
 
 
+def processors():
+    return len(os.sched_getaffinity(0))
+
+
+def expected_seconds():
+    """About how many seconds rt try takes here: beside the build it looks for names that a check will refuse."""
+    return UNPROVED_SECONDS * (1 if processors() > 1 else 2)
+
+
 def finish_with_signs(started):
     """Waits until a started program has ended, and says from time to time that it goes on; what it wrote."""
     begun = time.monotonic()
@@ -74,7 +86,7 @@ def finish_with_signs(started):
             if seconds > PATIENCE:
                 program.end(started)
                 raise Unbuilt(f"rt try has not ended after {PATIENCE} seconds") from None
-            print(f"  {seconds:.0f} seconds so far", flush=True)
+            print(f"  {seconds:.0f} seconds so far, of about {expected_seconds()}", flush=True)
 
 
 def run_unproved(runs, folder):
@@ -98,7 +110,8 @@ def run_all(runs, folder):
         proved = program.proved_program()
     except program.Missing as why:
         print(f"Not proved: {why}.")
-        print("So rt try builds the program, with no proof, and runs it, in one to two minutes:", flush=True)
+        print("So rt try builds the program once, with no proof, and runs it: about", end=" ")
+        print(f"{expected_seconds()} seconds on an idle machine with {processors()} processors, as this one has.", flush=True)
         return run_unproved(runs, folder)
     print(f"Proved: {proved.relative_to(program.ROOT)}, as rt ci built it.", flush=True)
     ran = [program.run(proved, words, folder) for words in runs]

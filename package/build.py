@@ -15,6 +15,8 @@ import products
 
 # processor minutes for each 1,000 lines of code, definitions and proofs, measured over thirty libraries
 MINUTES_FOR_1000_LINES = 0.6
+# how many processors rt mostly uses for one crate
+AT_ONCE = 2
 # seconds between two signs of life
 SIGN_SECONDS = 60
 PARTS = ("src", "specs", "proofs")
@@ -37,6 +39,11 @@ def lines_of(name):
     return sum(it.read_bytes().count(b"\n") for it in files)
 
 
+def minutes_for(names):
+    """About how many processor minutes it takes to build these crates."""
+    return MINUTES_FOR_1000_LINES * sum(map(lines_of, names)) / 1000
+
+
 def is_there(name):
     """Whether an earlier build left a library; rt itself sees whether it is still of the same text."""
     return (folder_of(name) / "out" / "rlib" / "stamp").is_file()
@@ -54,10 +61,10 @@ def run(name, command):
             print(f"  {name}: {time.monotonic() - begun:.0f} seconds so far", flush=True)
 
 
-def build(name, at, of):
-    """Builds a crate, and says so; whether it went well."""
+def build(name, place, expected):
+    """Builds a crate, and says so, with what is expected; whether it went well."""
     begun = time.monotonic()
-    print(f"[{at} of {of}] {name}", flush=True)
+    print(f"{place} {name}{expected}", flush=True)
     if name in products.programs():
         # rt also runs it, without arguments, and ends with its status; what counts is that it is there anew
         file = folder_of(name) / "out" / name
@@ -69,8 +76,16 @@ def build(name, at, of):
         done = not status
     if not done:
         print(said, flush=True)
-    print(f"[{at} of {of}] {name}: {'built' if done else 'FAILED'} after {time.monotonic() - begun:.0f} seconds", flush=True)
+    print(f"{place} {name}: {'built' if done else 'FAILED'} after {time.monotonic() - begun:.0f} seconds", flush=True)
     return done
+
+
+def time_for(minutes):
+    """How long so many processor minutes of rt take here, in words."""
+    processors = products.processors()
+    if processors < AT_ONCE:
+        return f"about {minutes:.0f} minutes on one processor"
+    return f"{minutes / AT_ONCE:.0f} to {minutes:.0f} minutes on {processors} processors, of which rt mostly uses {AT_ONCE}"
 
 
 def main(names):
@@ -80,12 +95,13 @@ def main(names):
     below, crates = {name: libraries for name, _, libraries in products.listed()}, []
     for name in names or products.programs():
         lowest_first(name, below, crates)
-    missing = [it for it in crates if not is_there(it)]
-    minutes = MINUTES_FOR_1000_LINES * sum(map(lines_of, missing)) / 1000
-    print(f"{len(crates)} crates, of which {len(missing)} are not built yet: about {minutes:.0f} processor minutes", flush=True)
+    left = [it for it in crates if not is_there(it)]
+    print(f"{len(crates)} crates, of which {len(left)} are not built yet: {time_for(minutes_for(left))}", flush=True)
     for at, name in enumerate(crates, 1):
-        if not build(name, at, len(crates)):
+        expected = f", about {minutes_for([name]):.1f} of {minutes_for(left):.0f} processor minutes" if name in left else ""
+        if not build(name, f"[{at} of {len(crates)}]", expected):
             sys.exit(1)
+        left = [it for it in left if it != name]
 
 
 if __name__ == "__main__":

@@ -30,6 +30,8 @@ AS_IT_IS += ("examples/*.timer", "examples/logs/**/*.log")
 SUMS = "SHA256SUMS"
 # how hard gzip tries; at 9 it takes four times as long, and saves a hundredth
 LEVEL = 6
+# about how long it takes to pack or to make the Debian package
+SECONDS = 10
 # the page that says which C library the programs need
 INSTALLING = products.ROOT / "docs" / "install.md"
 
@@ -46,6 +48,7 @@ def built(folder):
             file = folder / name if folder else program.proved_program(name)
             yield name, file.read_bytes()
             check_needs(name, file)
+            print(f"  {name}, {file.stat().st_size:,} bytes", flush=True)
         except program.Missing as why:
             missing.append(f"{why}: make build PROGRAM={name}")
         except FileNotFoundError as why:
@@ -70,14 +73,24 @@ def check_needs(name, file):
         raise Fault(f"{name} needs version {needed} of the C library, and docs/install.md states {stated_version()}")
 
 
+def say_beforehand():
+    """Says what is done and how long it takes, which no number of processors changes, as one of them does it."""
+    print(f"packs {len(products.programs())} programs, {len(man.pages())} man pages, the pages and the licences: some {SECONDS} seconds")
+    if not licences.own_licence():
+        print("no licence is chosen for Moqhuluzi yet, as licences/README.md of the package says", flush=True)
+
+
 def contents(folder=None):
     """What is packed: the mode and the bytes of each file, by its path."""
+    say_beforehand()
     files = {f"bin/{name}": (0o755, data) for name, data in built(folder)}
     for pattern in AS_IT_IS:
         for file in products.ROOT.glob(pattern):
             files[str(file.relative_to(products.ROOT))] = (0o644, file.read_bytes())
     for page, name, section in man.pages():
         files[f"man/man{section}/{name}.{section}"] = (0o644, man.man_page(page, name, section).encode())
+    for file in licences.own_licence():
+        files[file.name] = (0o644, file.read_bytes())
     notes, texts = licences.notes()
     files["licences/README.md"] = (0o644, notes.encode())
     for name, text in texts.items():

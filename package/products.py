@@ -27,11 +27,17 @@ def listed():
 @functools.cache
 def programs():
     """The programs of the product, by name."""
-    return sorted(
+    names = (
         name
         for name, comment, _ in listed()
         if NO_PRODUCT not in comment and (ROOT / "crates" / name / "src" / "main.rt").is_file()
     )
+    return tuple(sorted(names))
+
+
+def processors():
+    """How many processors this process may use."""
+    return len(os.sched_getaffinity(0))
 
 
 @functools.cache

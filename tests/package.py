@@ -27,6 +27,7 @@ sys.path += [str(ROOT / "package"), str(ROOT / "tests" / "end_to_end")]
 import deb  # noqa: E402
 import dist  # noqa: E402
 import example  # noqa: E402
+import licences  # noqa: E402
 import man  # noqa: E402
 import products  # noqa: E402
 from area import rows_of  # noqa: E402
@@ -115,6 +116,17 @@ class Package(unittest.TestCase):
             self.assertIn(name, files)
         for library in ("regex", "toml", "clap"):
             self.assertTrue(any(it.startswith(f"licences/{library}/LICENSE") for it in files), library)
+
+    def test_licences(self):
+        """Each linked library has its row, each row its files, and it is said whether the project has a licence."""
+        notes, texts = licences.notes()
+        rows = dict(re.findall(r"^\| (\w+) \| (.*) \|$", notes, re.MULTILINE))
+        self.assertEqual(tuple(it for it in rows if it != "Library"), licences.linked())
+        named = [it for row in rows.values() for it in row.split(", ") if "/" in it]
+        self.assertEqual(sorted(named), sorted(texts))
+        for library in (it for it, row in rows.items() if row == licences.NONE):
+            self.assertRegex(notes, rf"no licence file for \d+ of them: .*\b{library}\b")
+        self.assertEqual("No licence is chosen" in notes, not licences.own_licence())
 
     def test_man_pages(self):
         """Each renders without a warning, and has every word of its page."""

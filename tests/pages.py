@@ -1,7 +1,8 @@
 #!/usr/bin/env python3
 """Compares the pages with the repository: the files and headings that pages link to with those that are there, the names in
 backticks with those of the code, the tests and the settings, a clause that is linked with its file, the example that has
-every key with docs/settings.md, and the version that programs and pages state with the file VERSION.
+every key with docs/settings.md, the version that programs and pages state with the file VERSION, and what pages say of the
+project's licence with the licence files.
 """
 
 import re
@@ -47,6 +48,13 @@ REFERENCE = {
     "prospector.scanner.check_interval",
     "prospector.scanner.fingerprint.length",
     "prospector.scanner.fingerprint.offset",
+}
+# how the names of licence files begin, and what pages say while there is none
+LICENCE_FILES = ("LICENSE", "LICENCE", "COPYING")
+NO_LICENCE = {
+    "README.md": "None is chosen yet, so the repository has no licence file",
+    "CHANGELOG.md": "A licence of the project: none is chosen yet",
+    "docs/install.md": "No licence is chosen for Moqhuluzi itself yet",
 }
 # the tables of docs/settings.md, by their headings, and what comes before their keys
 SETTINGS_TABLES = {
@@ -196,8 +204,18 @@ def faults_of_version():
         yield f"CHANGELOG.md has no section of {version}"
 
 
+def faults_of_licence():
+    files = [it.name for it in ROOT.iterdir() if it.name.startswith(LICENCE_FILES)]
+    for name, said in NO_LICENCE.items():
+        is_said = said in " ".join((ROOT / name).read_text().split())
+        if is_said and files:
+            yield f"{name} says \"{said}\", and {files[0]} is there"
+        elif not is_said and not files:
+            yield f"{name} does not say \"{said}\", and there is no licence file"
+
+
 def main():
-    faults = [*faults_of_links(), *faults_of_example(), *faults_of_names(), *faults_of_version()]
+    faults = [*faults_of_links(), *faults_of_example(), *faults_of_names(), *faults_of_version(), *faults_of_licence()]
     for fault in faults:
         print(fault)
     print(f"pages: {len(faults)} faults")
