@@ -10,11 +10,11 @@ help:
 	@awk '/^$$/ { said = "" } /^# / { said = substr($$0, 3) } \
 	/^[a-z0-9]+:/ { printf "make %-8s %s\n", substr($$1, 1, length($$1) - 1), said }' $(MAKEFILE_LIST)
 
-# ships the logs of examples/ by examples/beat.toml to a receiver on loopback, and shows what came in
+# ships the logs of examples/ by examples/beat.toml to a receiver on loopback, and shows what came in, in two minutes
 run:
 	python3 -B examples/demo.py
 
-# proves and builds one program, and says beforehand how long it takes: make build PROGRAM=beat_sink
+# proves and builds one program, in minutes to hours, and says how long beforehand: make build PROGRAM=beat_sink
 build:
 	python3 -B package/build.py $(PROGRAM)
 
@@ -22,15 +22,15 @@ build:
 install:
 	install -D -m 755 crates/$(PROGRAM)/out/$(PROGRAM) $(DESTDIR)$(PREFIX)/bin/$(PROGRAM)
 
-# packs the proved programs into dist/moqhuluzi-VERSION-x86_64.tar.gz
+# packs the proved programs into dist/moqhuluzi-VERSION-x86_64.tar.gz, in seconds
 dist:
 	python3 -B package/dist.py
 
-# makes the Debian package of them, dist/moqhuluzi_VERSION_amd64.deb
+# makes the Debian package of them, dist/moqhuluzi_VERSION_amd64.deb, in seconds
 deb:
 	python3 -B package/deb.py
 
-# the merge check: all proofs, all tests, all must-fail edits, and the programs and the package tested from outside
+# the merge check, in an hour or more: all proofs, tests and must-fail edits, and the programs and the package from outside
 test:
 	.ci/run
 
