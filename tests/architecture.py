@@ -1,9 +1,9 @@
 #!/usr/bin/env python3
 """Makes the table of crates in docs/architecture.md: the floors and their crates in the order of crates.txt, and the first
-sentence of each crate's src/lib.rt, or src/main.rt. The rest of the page is written by hand.
+sentence of each crate's src/lib.rt, or src/main.rt. The rest of the page is written by hand; the whole has a limit.
 
     python3 -B tests/architecture.py            writes the table
-    python3 -B tests/architecture.py --check    compares it, and changes nothing
+    python3 -B tests/architecture.py --check    compares it and counts the words of the page, and changes nothing
 """
 
 import argparse
@@ -15,7 +15,11 @@ ROOT = Path(__file__).resolve().parents[1]
 PAGE = ROOT / "docs" / "architecture.md"
 # a comment of crates.txt that begins with one word and a colon begins a floor
 FLOOR = re.compile(r"# (\w+): (.*)")
-HEAD = "| Crate | What it is for |\n|---|---|\n"
+HEAD = "|Crate|What it is for|\n|---|---|\n"
+# how many words the page may have with its table
+WORDS = 2000
+# what the floor of tests says once for all its crates
+SAID_BY_FLOOR = "; no part of the product"
 TABLE = re.compile(re.escape(HEAD) + r"(?:\|.*\n)*")
 SENTENCE = re.compile(r".+?\.(?=\s|$)")
 
@@ -47,15 +51,24 @@ def first_sentence(crate):
 
 
 def row(name, description):
-    first, second = (f"`{name}`", first_sentence(name)) if description is None else (f"**{name}**", description)
-    return "| {} | {} |\n".format(first, (second or "").replace("|", r"\|"))
+    if description is None:
+        first, second = f"`{name}`", (first_sentence(name) or "").replace(SAID_BY_FLOOR, "")
+    else:
+        first, second = f"**{name}**", description
+    return "|{}|{}|\n".format(first, second.replace("|", r"\|"))
 
 
 def table():
     return HEAD + "".join(row(name, description) for name, description in lines())
 
 
-def faults(made, there):
+def count_words(page):
+    """How many words a page has; the cells of a row are apart, and a link has the words that it shows."""
+    shown = re.sub(r"\]\([^)]*\)", "]", page.replace("|", " "))
+    return sum(bool(re.search(r"\w", it)) for it in shown.split())
+
+
+def faults(made, there, words):
     for name, description in lines():
         if description is None and not first_sentence(name):
             yield f"{main_file(name).relative_to(ROOT)} begins with no sentence"
@@ -63,18 +76,22 @@ def faults(made, there):
         yield f"{PAGE.relative_to(ROOT)} has no table of crates"
     elif there.group() != made:
         yield f"{PAGE.relative_to(ROOT)} differs from the crates: python3 -B tests/architecture.py makes its table anew"
+    if words > WORDS:
+        yield f"{PAGE.relative_to(ROOT)} has {words:,} words, and at most {WORDS:,} are allowed"
 
 
 def main():
-    words = argparse.ArgumentParser(description="Makes or compares the table of crates in docs/architecture.md.")
-    words.add_argument("--check", action="store_true", help="compare, and change nothing")
+    options = argparse.ArgumentParser(description="Makes or compares the table of crates in docs/architecture.md.")
+    options.add_argument("--check", action="store_true", help="compare, and change nothing")
     made = table()
-    if not words.parse_args().check:
+    if not options.parse_args().check:
         PAGE.write_text(TABLE.sub(lambda _: made, PAGE.read_text()))
-    found = list(faults(made, TABLE.search(PAGE.read_text())))
+    page = PAGE.read_text()
+    words = count_words(page)
+    found = list(faults(made, TABLE.search(page), words))
     for fault in found:
         print(fault)
-    print(f"architecture: {len(found)} faults")
+    print(f"architecture: {len(found)} faults, {words:,} words of {WORDS:,}")
     return 1 if found else 0
 
 
