@@ -33,7 +33,7 @@ taken in turn.
 """
 
 MEMORY = """
-The peak of memory over one line of partial lines alone, which a message of 16 MiB bounds.
+The peak of memory over a line that has only partial lines, which a message of 16 MiB bounds.
 
 | Partial lines | Bytes of their texts | Peak memory, MiB |
 |---:|---:|---:|

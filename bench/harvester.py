@@ -1,4 +1,4 @@
-"""Times a harvester over lines in memory, beside `event_payload` alone."""
+"""Times a harvester over lines in memory, compared with `event_payload`."""
 
 import tempfile
 
@@ -10,7 +10,7 @@ LINE, LINES = 120, 400_000
 HEAD = f"""
 ## `Harvester::turn`
 
-The events of a file in memory of lines of {LINE} bytes, which is read 16,384 bytes at a time, beside `event_payload` alone over
+The events of a file in memory of lines of {LINE} bytes, which is read 16,384 bytes at a time, compared with `event_payload` for
 the same messages. Processor time, the least of {RUNS} runs, taken in turn, less that of a run without a line.
 
 | What | Events a second | Megabytes a second | Payloads a second | Times the time of `event_payload` |

@@ -97,7 +97,7 @@ def memory_row(spool, folder, host):
     peak = peak_memory([os.fspath(spool), "send", host], folder) / 2**20
     wall = time.monotonic() - begun
     if (folder / "spool").read_bytes() != b".":
-        raise SystemExit("the spool is not empty behind its sending")
+        raise SystemExit("the spool is not empty after all was sent")
     print(f"{events} events of {HELD} bytes: {peak:.1f} MiB", flush=True)
     return f"| {events:,} | {HELD} | {size:,} | {wall:.0f} | {peak:.1f} |\n"
 

@@ -38,8 +38,8 @@ HEAD = f"""
 ## The program over files
 
 {LINES:,} lines of {LINE} bytes, {LINES * (LINE + 1) / 1e6:.1f} megabytes, in so many files of one size, to a receiver
-on loopback that acknowledges each window. A window has at most 2,048 events. Beside the program stands a bare sender
-(`bench/bare.rs`), which reads the same files one after the other and sends the same payloads. Each time is the
+on loopback that acknowledges each window. A window has at most 2,048 events. The program is compared with a bare sender
+(`bench/bare.rs`), which reads the same files in sequence and sends the same payloads. Each time is the
 best of {RUNS} runs, taken in turn; the peak of memory is that of one more run. The receiver is the same for both.
 
 | Files | | Lines a second | Megabytes of the files a second | Processor seconds | Peak memory, MiB |
