@@ -10,11 +10,11 @@ help:
 	@awk '/^$$/ { said = "" } /^# / { said = substr($$0, 3) } \
 	/^[a-z0-9]+:/ { printf "make %-8s %s\n", substr($$1, 1, length($$1) - 1), said }' $(MAKEFILE_LIST)
 
-# ships the logs of examples/ by examples/beat.toml to a receiver on loopback, and shows what came in, in two minutes
+# ships the logs of examples/ with examples/beat.toml to a receiver on loopback, and shows what came in, in two minutes
 run:
 	python3 -B examples/demo.py
 
-# proves and builds one program, in minutes to hours, and says how long beforehand: make build PROGRAM=beat_sink
+# proves and builds one program, in minutes to hours, and says beforehand how long it takes: make build PROGRAM=beat_sink
 build:
 	python3 -B package/build.py $(PROGRAM)
 
@@ -46,7 +46,7 @@ edits:
 e2e:
 	python3 -B tests/end_to_end/run.py $(TEST)
 
-# lays out every crate
+# formats every crate
 fmt:
 	for crate in crates/*/; do (cd $$crate && rt fmt) || exit 1; done
 

@@ -24,16 +24,16 @@ HELD = [140_288, 280_576]
 HEAD = f"""
 ## Container logs
 
-A log in a file, every fourth line partial, with texts of 120 bytes, through `beat_container`, beside a bare reader
-(`bench/bare.rs`) that finds and writes the same texts and looks at nothing else of a line. Processor time, the least of {RUNS} runs,
-taken in turn.
+A log in a file, every fourth line partial, with texts of 120 bytes, through `beat_container`, compared with a bare reader
+(`bench/bare.rs`) that finds and writes the same texts and looks at nothing else in a line. Processor time: the least of {RUNS}
+alternating runs.
 
-| Lines | Lines a second | Megabytes of the log a second | Of the bare reader | Times its time |
+| Lines | Lines a second | Megabytes of the log a second | Bare reader, megabytes a second | Time ratio |
 |---|---:|---:|---:|---:|
 """
 
 MEMORY = """
-The peak of memory over a line that has only partial lines, which a message of 16 MiB bounds.
+Peak memory for a log of only partial lines, which are one line; a message of 16 MiB bounds it.
 
 | Partial lines | Bytes of their texts | Peak memory, MiB |
 |---:|---:|---:|

@@ -10,10 +10,10 @@ LINE, LINES = 120, 400_000
 HEAD = f"""
 ## `Harvester::turn`
 
-The events of a file in memory of lines of {LINE} bytes, which is read 16,384 bytes at a time, compared with `event_payload` for
-the same messages. Processor time, the least of {RUNS} runs, taken in turn, less that of a run without a line.
+The events of a file in memory with lines of {LINE} bytes, which is read 16,384 bytes at a time, compared with `event_payload`
+for the same messages. Processor time: the least of {RUNS} alternating runs, less that of a run without a line.
 
-| What | Events a second | Megabytes a second | Payloads a second | Times the time of `event_payload` |
+| What | Events a second | Megabytes a second | `event_payload`, payloads a second | Time ratio |
 |---|---:|---:|---:|---:|
 """
 

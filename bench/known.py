@@ -11,17 +11,17 @@ PROGRAM = CRATE / "out" / "bench_files"
 
 FILES = 65_536
 # the call, how many turns it makes, and what one turn is
-TURNS = [("grown", 20, "each file grew"), ("gone", 5, "each file comes with one scan and goes with the next")]
+TURNS = [("grown", 20, "each file grew"), ("gone", 5, "each file is new in one scan and gone in the next")]
 
 KNOWN = f"""
 ## Known files
 
-{FILES:,} files between scans: `Prospector::compare`, and for each change `FileTable::take`; for those that go also
-`Prospector::file_of` and `gone`, and `FileTable::gone`. Beside them two `BTreeMap`s, from keys to slots and from slots to files,
-that are kept by hand (`bench/bare.rs`). Processor time, the least of {RUNS} runs, taken in turn, less that of a run without a
-turn.
+{FILES:,} files between scans: `Prospector::compare`, and for each change `FileTable::take`; for removed files also
+`Prospector::file_of` and `gone`, and `FileTable::gone`. They are compared with two `BTreeMap`s, from keys to slots and from slots
+to files, that are kept by hand (`bench/bare.rs`). Processor time: the least of {RUNS} alternating runs, less that of a run
+without a turn.
 
-| A turn | Milliseconds | By the maps | Times their time |
+| A turn | Milliseconds | Maps, milliseconds | Time ratio |
 |---|---:|---:|---:|
 """
 

@@ -19,22 +19,22 @@ COMMITS = [(1, 400), (100, 400), (8_192, 10)]
 SETTLED = f"""
 ## `Tracker::note`
 
-{SPANS:,} spans of {SPAN} bytes of one file, each hundred thousand of them in their order, in that of the permutation
-`i * 7919 mod 100,000`, and from the last one on; beside a `BTreeMap` of intervals that is kept by hand (`bench/bare.rs`).
-Processor time, the least of {RUNS} runs, taken in turn; the peak of memory is that of one more run.
+{SPANS:,} spans of {SPAN} bytes of one file, each hundred thousand of them in order, in the order of the permutation
+`i * 7919 mod 100,000`, and backwards; compared with a `BTreeMap` of intervals that is kept by hand (`bench/bare.rs`).
+Processor time: the least of {RUNS} alternating runs; peak memory is from one more run.
 
-| Order | Million spans a second | By the map | Times its time | Peak memory, MiB | By the map |
+| Order | Million spans a second | Map, million spans a second | Time ratio | Peak memory, MiB | Map, peak memory, MiB |
 |---|---:|---:|---:|---:|---:|
 """
 
 STORED = f"""
 ## `Store::commit`
 
-Commits of a store over two files, beside a bare writer (`bench/bare.rs`) of the same bytes and syncs, which makes no text.
-The time is the clock's, the least of {RUNS} runs, taken in turn, less that of a run without a commit; it depends on the disk,
-and on what else runs. The peak of memory is that of one more run.
+Commits of a store over two files, compared with a bare writer (`bench/bare.rs`) of the same bytes and syncs, which makes no
+text. Times are by the clock, the least of {RUNS} alternating runs, less that of a run without a commit; they depend on the
+disk, and on what else runs. Peak memory is from one more run.
 
-| What | Times a second | Rows a second | Bare, times a second | Times the bare time | Peak memory, MiB |
+| What | Commits a second | Rows a second | Bare writer, commits a second | Time ratio | Peak memory, MiB |
 |---|---:|---:|---:|---:|---:|
 """
 

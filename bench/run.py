@@ -43,7 +43,8 @@ PARTS = {
 
 HEAD = """# Times
 
-`make bench` writes this page. What it shows was measured once on one machine; nothing here is promised.
+`make bench` writes this page. What it shows was measured once on one machine; nothing here is promised. A *ratio* is the
+measured figure divided by that of the bare program, or of what else it is compared with, in the same runs.
 """
 
 

@@ -28,11 +28,11 @@ BEFORE = 0.2
 HEAD = f"""
 ## The receiver over loopback
 
-{WINDOWS} windows of {WINDOW:,} events of {EVENT} bytes each over one connection to `beat_sink`, beside a bare receiver
+{WINDOWS} windows of {WINDOW:,} events of {EVENT} bytes each over one connection to `beat_sink`, compared with a bare receiver
 (`bench/bare.rs`) that reads, cuts and writes the same bytes and acknowledges each window. The sender is the same for both.
-Each time is the best of {RUNS} runs, taken in turn.
+Each time is the best of {RUNS} alternating runs.
 
-| Windows in flight | Events a second | Of the bare receiver | Times its time | Times its processor time | Peak memory, MiB |
+| Windows in flight | Events a second | Bare receiver, events a second | Time ratio | Processor time ratio | Peak memory, MiB |
 |---:|---:|---:|---:|---:|---:|
 """
 

@@ -29,17 +29,17 @@ CONNECTIONS = 1_000
 HEAD = f"""
 ## A spool on disk
 
-`put` of {LINES:,} lines of {LINE} bytes, beside a bare writer (`bench/bare.rs`) that writes the same records and syncs as
-often, twice for each; and `send` of {EVENTS:,} events of {EVENT} bytes in windows of 2,048 to a receiver on loopback,
-beside a bare sender of the same windows. Each time is the best of {PUT_RUNS} runs of `put`
-and of {RUNS} of `send`, taken in turn.
+`put` of {LINES:,} lines of {LINE} bytes, compared with a bare writer (`bench/bare.rs`) that writes the same records and syncs
+as often, twice for each; and `send` of {EVENTS:,} events of {EVENT} bytes in windows of 2,048 to a receiver on loopback,
+compared with a bare sender of the same windows. Each time is the best of {PUT_RUNS} alternating runs of `put` and of {RUNS} of
+`send`.
 
-| What | A second | Of the bare program | Times its time |
+| What | A second | Bare program, a second | Time ratio |
 |---|---:|---:|---:|
 """
 
 MEMORY = """
-The peak of memory over a spool that is as long as it may be, opened and sent to that receiver.
+Peak memory for a spool of the greatest length, opened and sent to that receiver.
 
 | Events | Bytes of each | Bytes of the spool | Seconds | Peak memory, MiB |
 |---:|---:|---:|---:|---:|

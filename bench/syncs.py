@@ -22,9 +22,9 @@ CONNECT = re.compile(r"\bconnect\(.*AF_INET")
 HEAD = f"""
 ## Syncs of the registry
 
-Runs over {FILES} files, in sequence, and how often each synced its registry: before its first connection, and in
-all. A commit syncs its area twice, and the first of a run syncs the area's folder, too. A run stores what is new of its files
-before it sends a byte, and stores once more at its end.
+Runs over {FILES} files, in sequence, and how often each synced its registry: before its first connection, and in all. A
+commit syncs its area twice, and the first commit of a run also syncs the area's folder. A run stores what is new about its
+files before it sends a byte, and stores once more at its end.
 
 | Run | Syncs before it connects | Syncs in all |
 |---|---:|---:|

@@ -37,26 +37,26 @@ CONNECTIONS = 1_000_000
 HEAD = f"""
 ## The program over files
 
-{LINES:,} lines of {LINE} bytes, {LINES * (LINE + 1) / 1e6:.1f} megabytes, in so many files of one size, to a receiver
-on loopback that acknowledges each window. A window has at most 2,048 events. The program is compared with a bare sender
-(`bench/bare.rs`), which reads the same files in sequence and sends the same payloads. Each time is the
-best of {RUNS} runs, taken in turn; the peak of memory is that of one more run. The receiver is the same for both.
+{LINES:,} lines of {LINE} bytes, {LINES * (LINE + 1) / 1e6:.1f} megabytes, in one or more files of equal size, to a receiver on
+loopback that acknowledges each window. A window has at most 2,048 events. The program is compared with a bare sender
+(`bench/bare.rs`), which reads the same files in sequence and sends the same payloads to the same receiver. Each time is the
+best of {RUNS} alternating runs; peak memory is from one more run.
 
 | Files | | Lines a second | Megabytes of the files a second | Processor seconds | Peak memory, MiB |
 |---:|---|---:|---:|---:|---:|
 """
 
 RATIOS = """
-The program beside the bare sender, in these runs:
+The program compared with the bare sender, in these runs:
 
-| Files | Times its time | Times its processor time | Times its peak memory |
+| Files | Time ratio | Processor time ratio | Peak memory ratio |
 |---:|---:|---:|---:|
 """
 
 CREW_HEAD = f"""
-The program over {CREW_FILES} such files with so many lanes and as many workers:
+The program over {CREW_FILES} such files with equally many lanes and workers; the ratio is to one lane and one worker:
 
-| What | Lanes and workers | Lines a second | Times the time of one | Processor seconds |
+| What | Lanes and workers | Lines a second | Time ratio | Processor seconds |
 |---|---:|---:|---:|---:|
 """
 

@@ -27,9 +27,9 @@ HEAD = f"""
 ## Runs that find nothing new
 
 A run over files of {SIZE:,} bytes, each of one line, that an earlier run has shipped: each is listed, opened and looked at,
-and for a fingerprint opened and read once before. Below it a run over {GLOBBED_FILES:,} files of which each is covered by
-one of {INPUTS} times {GLOBS} globs: their roots are one folder, or each input has one of its own, and all files lie in
-the first. Each time is the best of {RUNS} runs, taken in turn; the peak of memory is that of one more run.
+and for a fingerprint opened and read once before. The last two rows are runs over {GLOBBED_FILES:,} files, each covered by one
+of {INPUTS} times {GLOBS} globs: the roots of all globs are one folder, or each input has a root of its own and all files are in
+the first. Each time is the best of {RUNS} alternating runs; peak memory is from one more run.
 
 | Files | | Milliseconds | Processor milliseconds | Microseconds a file | Peak memory, MiB |
 |---:|---|---:|---:|---:|---:|

@@ -15,12 +15,12 @@ WINDOW, EVENT = 2_048, 240
 HEAD = f"""
 ## A worker over loopback
 
-Windows of {WINDOW:,} events of {EVENT} bytes each through one worker, its queue and its box, driven by one thread, beside a
-bare sender (`bench/bare.rs`) that sends the same frames with as many windows in flight. The peer is the same for both and
-acknowledges each window as late as is said. Each time is the clock's, the best of {RUNS} runs, taken in turn. The processor
-time of the worker counts that for making its events.
+Windows of {WINDOW:,} events of {EVENT} bytes each through one worker, its queue and its box, driven by one thread, compared
+with a bare sender (`bench/bare.rs`) that sends the same frames with as many windows in flight. The peer is the same for both
+and acknowledges each window with the stated delay. Times are by the clock, the best of {RUNS} alternating runs. The processor
+time of the worker includes making its events.
 
-| Windows in flight | The peer answers | Events a second | Of the bare sender | Times its time | Times its processor time |
+| Windows in flight | The peer answers | Events a second | Bare sender, events a second | Time ratio | Processor time ratio |
 |---:|---|---:|---:|---:|---:|
 """
 

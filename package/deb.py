@@ -33,9 +33,9 @@ Section: admin
 Priority: optional
 Description: log shipper like Filebeat, over Lumberjack v2
  Reads log files once, sends their events to Logstash or other receivers, and
- stores for each file the offset up to which every event was acknowledged or
- dropped; the next run goes on there. With it come programs that check settings
- and show the status, a receiver, a converter of container logs and a spool.
+ stores for each file the offset below which every event was acknowledged or
+ dropped; the next run resumes there. Other programs check settings and show
+ the status, receive events, convert container logs and keep lines in a spool.
 """
 # what the units of examples/ say, and what those of the package say in its place
 IN_UNITS = (
