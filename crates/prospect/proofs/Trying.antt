@@ -10,7 +10,8 @@ use Rattle.outside.specs.declared.entry.Entry.{Entry}
 use Rattle.outside.specs.declared.failed.FolderError.{FolderError}
 use Rattle.outside.specs.declared.history.Shown.{Shown}
 use Rattle.outside.specs.declared.history.Sight.{Sight}
-use Rattle.outside.specs.Folders.{Event, FolderHistory, IsListable, KeepsFailure, Listed, ListingFailed, TellsListing, with_event}
+use Rattle.outside.specs.Folders.{Event, FolderHistory, IsListable, KeepsFailure, Listed, ListingFailed, TellsClosing, TellsListing, TellsOpening, with_event}
+use Rattle.outside.specs.Tails.{TailHistory}
 use Rattle.prospect.specs.declared.listings.Tried.{Tried}
 use Rattle.prospect.specs.declared.scan_input.ScanInput.{ScanInput}
 use Rattle.prospect.specs.Entries.{Adds}
@@ -290,6 +291,23 @@ ends_at_input inputs i input told between after old new faults later rise within
 -- the globs are those of the settings
 pub by_globs : (globs others : List (List ℕ)) (told after : Option FolderHistory) (faults : ℕ) → globs ≡ others → IfSome told (λ history. TriesSome globs history faults after) → IfSome told (λ history. TriesSome others history faults after)
 by_globs globs others told after faults same some = subst (λ (l : List (List ℕ)). IfSome told (λ history. TriesSome l history faults after)) same some
+
+-- ---- where the folder tells nothing
+
+pub untold_by_listing : (told : Option FolderHistory) (states : List Sight) (present : List Shown) (root : List ℕ) (depth : ℕ) (result : Result (Vec Entry Global) FolderError) (after : Option FolderHistory) (faults : ℕ) →
+    TellsListing told states present root depth result after faults → told ≡ None → after ≡ None
+untold_by_listing None states present root depth result after faults tells none = tells
+untold_by_listing (Some history) states present root depth result after faults tells none = let wrong : Some history ≡ None = none in cc
+
+module _ {T : Type 0} (tail_told : T → Option TailHistory) (tail_numbers : T → Option (ℕ × ℕ)) where
+  pub untold_by_opening : (told : Option FolderHistory) (states : List Sight) (present : List Shown) (path : List ℕ) (result : Result (Option T) FolderError) (after : Option FolderHistory) →
+      TellsOpening tail_told tail_numbers told states present path result after → told ≡ None → after ≡ None
+  untold_by_opening None states present path result after tells none = tells.0
+  untold_by_opening (Some history) states present path result after tells none = let wrong : Some history ≡ None = none in cc
+
+pub untold_by_closing : (told : Option FolderHistory) (tail : Option TailHistory) (faults : ℕ) (after : Option FolderHistory) → TellsClosing told tail faults after → told ≡ None → after ≡ None
+untold_by_closing None tail faults after tells none = tells
+untold_by_closing (Some history) tail faults after tells none = let wrong : Some history ≡ None = none in cc
 
 -- ---- what failed, by the counts
 

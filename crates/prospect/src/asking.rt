@@ -1,4 +1,4 @@
-ghost use Rattle.std.specs.Prelude.{◌≡◌, ◌∷◌, ◌-◌, ◌<◌, ◌≤◌, ◌^◌, List, length, All, IfOk, IfSome, IsErrOf, IsSome, OnErr, OnOk};
+ghost use Rattle.std.specs.Prelude.{◌≡◌, ◌∷◌, ◌-◌, ◌<◌, ◌≤◌, ◌^◌, List, length, All, IfOk, IfSome, IsErrOf, IsSome, None, OnErr, OnOk};
 ghost use Rattle.file_identity.specs.Answers.{IsAskable, IsFingerprint};
 ghost use Rattle.outside.specs.Counts.{Rose};
 ghost use Rattle.prospect.specs.AskedFiles.{AreAskable, AsksFiles, AsksSome, KeepsFiles, ReadNoFile};
@@ -139,6 +139,7 @@ pub(crate) fn ask<F: Folder>(
     requires { IsAskable rule.now.file_identity }
     ensures told { IfSome (F.told folder.old)
         (λ told. TellsAnswer rule.now one.now told result (F.told folder.new)) }
+    ensures untold { F.told folder.old ≡ None → F.told folder.new ≡ None }
     ensures answer { IfOk result (IsAnswerFor rule.now one.now) }
     ensures refused { OnErr result (IsFingerprint rule.now.file_identity) }
     ensures failed_only_where_faults_rose { IsErrOf result FolderError.Failed

@@ -1,4 +1,4 @@
-ghost use Rattle.std.specs.Prelude.{◌≡◌, ◌≢◌, ◌∷◌, ◌-◌, ◌<◌, ◌≤◌, ◌^◌, [], List, length, All, IfOk, IfSome, IsSome, OnErr, OnOk};
+ghost use Rattle.std.specs.Prelude.{◌≡◌, ◌≢◌, ◌∷◌, ◌-◌, ◌<◌, ◌≤◌, ◌^◌, [], List, length, All, IfOk, IfSome, IsSome, None, OnErr, OnOk};
 ghost use Rattle.prospect.specs.AskedFiles.{AreAskable, AsksFiles, KeepsFiles, ReadNoFile};
 ghost use Rattle.prospect.specs.Asking.{KeepsNext};
 ghost use Rattle.prospect.specs.ListedFiles.{IsKeyed, IsListedInRange};
@@ -40,6 +40,7 @@ pub fn ask_past_faults<F: Folder>(
         (λ told. TriesFiles inputs.now told listed.items askings (F.told folder.new))) }
     ensures ended { OnErr result (IfSome (F.told folder.old)
         (λ told. TriesSomeFiles inputs.now told listed.items (F.told folder.new))) }
+    ensures untold { F.told folder.old ≡ None → F.told folder.new ≡ None }
     ensures whole { IfOk result (λ askings. askings.failed.items ≡ [] → IfSome (F.told folder.old)
         (λ told. AsksFiles inputs.now told listed.items askings.keyed (F.told folder.new))) }
 
@@ -90,6 +91,7 @@ fn try_next<F: Folder>(
         TriesNext inputs.now told one askings.old askings.new (F.told folder.new))) }
     ensures ended { OnErr result (IfSome (F.told folder.old) (λ told. (others : List Listed)
         → TriesSomeFiles inputs.now told (one ∷ others) (F.told folder.new))) }
+    ensures untold { F.told folder.old ≡ None → F.told folder.new ≡ None }
     ensures keeps { OnOk result (KeepsNext inputs.now one
         askings.old.keyed.files.items askings.new.keyed.files.items) }
     ensures failed_only_where_faults_rose { FailMoreOnlyByFaults

@@ -1,4 +1,4 @@
-ghost use Rattle.std.specs.Prelude.{◌≡◌, ◌≢◌, ◌<◌, ◌≤◌, ◌∷◌, [], length, All, IfErr, IfOk, IfSome, OnErr, OnOk};
+ghost use Rattle.std.specs.Prelude.{◌≡◌, ◌≢◌, ◌<◌, ◌≤◌, ◌∷◌, [], length, All, IfErr, IfOk, IfSome, None, OnErr, OnOk};
 ghost use Rattle.prospect.specs.ListedFiles.{AreApart, AreInOrder, EndsAs, IsKeyed, IsListedInRange, ScansFiles};
 ghost use Rattle.prospect.specs.Members.{HaveGlobs, HaveShortIds, globs_of};
 ghost use Rattle.prospect.specs.PastFaults.{IsNoWholeList, ServesFiles, ServesNoFiles, TriesSome};
@@ -47,6 +47,7 @@ pub fn list_past_faults<F: Folder>(
         (F.faults folder.new) (F.told folder.new)))) }
     ensures ended { OnErr result (IfSome (F.told folder.old) (λ told.
         TriesSome (globs_of inputs.now) told (F.faults folder.new) (F.told folder.new))) }
+    ensures untold { F.told folder.old ≡ None → F.told folder.new ≡ None }
 
     // Where none failed the list is that of a whole scan, and else it is none.
     ensures whole { IfOk result (λ all. all.failed.items ≡ [] → IfOk all.files (λ files.
@@ -116,6 +117,7 @@ fn try_inputs<F: Folder>(
         tried.old tried.new (F.faults folder.new) (F.told folder.new)) }
     ensures some { OnErr result (IfSome (F.told folder.old) (λ told.
         TriesSome (globs_read inputs.now) told (F.faults folder.new) (F.told folder.new))) }
+    ensures untold { F.told folder.old ≡ None → F.told folder.new ≡ None }
     ensures failed_only_where_faults_rose { FailMoreOnlyByFaults
         tried.old.failed.items tried.new.failed.items
         (F.faults folder.old) (F.faults folder.new) }
@@ -139,6 +141,7 @@ fn try_globs<F: Folder>(
         tried.old tried.new (F.faults folder.new) (F.told folder.new)) }
     ensures some { OnErr result (IfSome (F.told folder.old) (λ told.
         TriesSome globs.now told (F.faults folder.new) (F.told folder.new))) }
+    ensures untold { F.told folder.old ≡ None → F.told folder.new ≡ None }
     ensures failed_only_where_faults_rose { FailMoreOnlyByFaults
         tried.old.failed.items tried.new.failed.items
         (F.faults folder.old) (F.faults folder.new) }
@@ -162,6 +165,7 @@ fn try_glob<F: Folder>(
         tried.old tried.new (F.faults folder.new) (F.told folder.new)) }
     ensures some { OnErr result (IfSome (F.told folder.old) (λ told.
         TriesSome (glob.now ∷ []) told (F.faults folder.new) (F.told folder.new))) }
+    ensures untold { F.told folder.old ≡ None → F.told folder.new ≡ None }
     ensures failed_only_where_faults_rose { FailMoreOnlyByFaults
         tried.old.failed.items tried.new.failed.items
         (F.faults folder.old) (F.faults folder.new) }

@@ -1,6 +1,7 @@
 pub mod AskedEvents
 pub mod Events
 pub mod ExactScans
+pub mod FaultyScans
 pub mod FirstPaths
 pub mod KeyedFiles
 pub mod Members

@@ -2,7 +2,7 @@
 -- after its askings; what asking the listed files for their keys came to; which of those with a key are followed; its moment.
 -- A listing or an asking may have failed: the scan goes on past it, and is whole only if none did. The run around it goes on after it, with other
 -- scans before and after.
-use Rattle.std.specs.Prelude.{◌≡◌, ℕ, ◌-◌, ◌<◌, ◌≤◌, min, Bool, List, [], ◌∷◌, ◌++◌, All, drop, flat_map, length, map, Option, Some, None}
+use Rattle.std.specs.Prelude.{◌≡◌, ◌≢◌, ◌⊎◌, ℕ, ◌-◌, ◌<◌, ◌≤◌, min, Bool, List, [], ◌∷◌, ◌++◌, All, drop, flat_map, length, map, Option, Some, None}
 use Rattle.std.specs.List.{AllByRecursion}
 use Rattle.event_tree.specs.declared.input_rule.InputRule.{InputRule}
 use Rattle.event_tree.specs.declared.settings.Settings.{Settings}
@@ -107,6 +107,11 @@ pub record IsToldWithoutFault (told : ToldScan) : Type 0 where
   pub is : IsTold told
   pub none_failed : flat_map unserved_by is.attempts ≡ []
   pub none_faulted : flat_map faulted_by is.trials ≡ []
+
+-- some listing failed, or some asking
+pub record IsToldWithFault (told : ToldScan) : Type 0 where
+  pub is : IsTold told
+  pub some : (flat_map unserved_by is.attempts ≢ []) ⊎ (flat_map faulted_by is.trials ≢ [])
 
 -- ---- the run around it
 

@@ -2,7 +2,7 @@ ghost use Rattle.kept_rows.specs.Run.{Run, Scan};
 ghost use Rattle.kept_rows.specs.Scans.{IsWhole};
 ghost use Rattle.told_scans.specs.Exact.{ShowsExactly};
 ghost use Rattle.told_scans.specs.Partial.{IsPartial};
-ghost use Rattle.told_scans.specs.ToldScan.{IsAround, IsTold, IsToldWithoutFault, RunAround, ToldScan, run_around, scan_by};
+ghost use Rattle.told_scans.specs.ToldScan.{IsAround, IsTold, IsToldWithFault, IsToldWithoutFault, RunAround, ToldScan, run_around, scan_by};
 ghost use Rattle.told_scans.specs.ToldScans.{AreExactScans, AreToldIn, MayGoOn, ToldRun};
 
 /// A scan that listed for each glob and asked each file, as its calls report it, without a fault is a whole scan of each run around it. A law;
@@ -10,6 +10,13 @@ ghost use Rattle.told_scans.specs.ToldScans.{AreExactScans, AreToldIn, MayGoOn, 
 pub fn told_scans_are_whole()
     ensures { (told : ToldScan) (around : RunAround) → IsToldWithoutFault told →
         IsAround told around → IsWhole (run_around told around) (scan_by told) }
+{}
+
+/// A scan of which some listing failed, as its calls report it, or some asking, is a partial scan of each run around it. A law; it
+/// computes nothing.
+pub fn told_faults_make_scans_partial()
+    ensures { (told : ToldScan) (around : RunAround) → IsToldWithFault told →
+        IsAround told around → IsPartial (run_around told around) (scan_by told) }
 {}
 
 /// A scan of which a listing failed, or the opening or reading of a file that was asked for its key, is no whole scan. A law;

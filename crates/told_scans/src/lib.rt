@@ -11,7 +11,7 @@
 //! around each of its scans, so what is known of a scan is known of each of them. An opening by which a scan asked for a key
 //! is within that scan; any other one is between scans, or its tail told nothing but reads.
 //!
-//! The laws say that a scan without a fault is a whole one, that a partial one never is, and that both show what was listed;
+//! The laws say that a scan without a fault is a whole one, that one with a fault is partial and never whole, and that both show what was listed;
 //! and that all listings of a run are those of its scans, as they were told. Definitions, laws and lemmas only; nothing here
 //! runs.
 #![tactic(auto)]
@@ -19,6 +19,7 @@
 mod laws;
 
 pub use laws::{
-    partial_scans_are_never_whole, told_scans_are_those_of_their_run, told_scans_are_whole,
-    told_scans_go_on, told_scans_show_what_was_listed,
+    partial_scans_are_never_whole, told_faults_make_scans_partial,
+    told_scans_are_those_of_their_run, told_scans_are_whole, told_scans_go_on,
+    told_scans_show_what_was_listed,
 };

@@ -15,6 +15,7 @@ loop-one-init g c = record {
   tries = tries_none c.args.inputs.now _ _ c.new.ensures.items c.new-2.ensures.items c.new-3.ensures.items c.new-4.ensures.items;
   keeps = c.new.ensures.items;
   failed = inl c.new-4.ensures.items;
+  untold = λ none. none;
   open_tails = λ few. refl;
   faults = omega arith;
 }
@@ -24,6 +25,7 @@ loop-one-preserved g c = record {
   tries = tries_more c.args.inputs.now c.loop-one.yielded c.in-Some.one _ _ _ _ _ c.loop-one.invariant.tries c.in_ok-try_next.ensures.tried;
   keeps = keeps_next c.args.inputs.now c.loop-one.yielded c.in-Some.one _ _ c.loop-one.invariant.keeps c.in_ok-try_next.ensures.keeps;
   failed = fail_more_later _ _ _ _ _ _ c.try_next.ensures.faults_never_fall c.loop-one.invariant.failed c.loop-one.invariant.faults c.try_next.ensures.failed_only_where_faults_rose;
+  untold = λ none. c.try_next.ensures.untold (c.loop-one.invariant.untold none);
   open_tails = λ few. c.try_next.ensures.open_tails_kept (omega (arith, few, c.loop-one.invariant.open_tails few)) ∙ c.loop-one.invariant.open_tails few;
   faults = omega (arith, c.loop-one.invariant.faults, c.try_next.ensures.faults_never_fall);
 }

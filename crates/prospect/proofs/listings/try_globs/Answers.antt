@@ -4,12 +4,13 @@ use Rattle.prospect.proofs.Unfinished.{on_err}
 use Rattle.prospect.proofs.listings.try_globs.Goals as goal
 
 pub loop-glob-init : goal.loop-glob-init
-loop-glob-init g c = record { tries = tries_nothing _ _ _; failed = inl refl; open_tails = refl; faults = omega arith }
+loop-glob-init g c = record { tries = tries_nothing _ _ _; failed = inl refl; untold = λ none. none; open_tails = refl; faults = omega arith }
 
 pub loop-glob-preserved : goal.loop-glob-preserved
 loop-glob-preserved g c = record {
   tries = tries_next _ _ c.glob-item.result _ _ _ _ _ _ _ _ c.in_ok-try_glob.ensures.faults_never_fall c.loop-glob-test.true c.glob-item.is c.loop-glob.invariant.tries c.in_ok-try_glob.ensures.tried;
   failed = fail_more_later _ _ _ _ _ _ c.in_ok-try_glob.ensures.faults_never_fall c.loop-glob.invariant.failed c.loop-glob.invariant.faults c.in_ok-try_glob.ensures.failed_only_where_faults_rose;
+  untold = λ none. c.in_ok-try_glob.ensures.untold (c.loop-glob.invariant.untold none);
   open_tails = c.in_ok-try_glob.ensures.open_tails_kept ∙ c.loop-glob.invariant.open_tails;
   faults = omega (arith, c.loop-glob.invariant.faults, c.in_ok-try_glob.ensures.faults_never_fall);
 }

@@ -4,12 +4,13 @@ use Rattle.prospect.proofs.Unfinished.{on_err}
 use Rattle.prospect.proofs.listings.try_inputs.Goals as goal
 
 pub loop-input-init : goal.loop-input-init
-loop-input-init g c = record { tries = tries_nothing _ _ _; failed = inl refl; open_tails = refl; faults = omega arith }
+loop-input-init g c = record { tries = tries_nothing _ _ _; failed = inl refl; untold = λ none. none; open_tails = refl; faults = omega arith }
 
 pub loop-input-preserved : goal.loop-input-preserved
 loop-input-preserved g c = record {
   tries = tries_next_input _ _ c.input-item.result _ _ _ _ _ _ _ _ c.in_ok-try_globs.ensures.faults_never_fall c.loop-input-test.true c.input-item.is c.loop-input.invariant.tries (rw c.deref.ensures.value at c.in_ok-try_globs.ensures.tried);
   failed = fail_more_later _ _ _ _ _ _ c.in_ok-try_globs.ensures.faults_never_fall c.loop-input.invariant.failed c.loop-input.invariant.faults c.in_ok-try_globs.ensures.failed_only_where_faults_rose;
+  untold = λ none. c.in_ok-try_globs.ensures.untold (c.loop-input.invariant.untold none);
   open_tails = c.in_ok-try_globs.ensures.open_tails_kept ∙ c.loop-input.invariant.open_tails;
   faults = omega (arith, c.loop-input.invariant.faults, c.in_ok-try_globs.ensures.faults_never_fall);
 }
