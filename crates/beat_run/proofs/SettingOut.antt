@@ -14,20 +14,19 @@ use Rattle.wire_base.specs.declared.row.Row.{Row}
 use Rattle.run_steps.specs.Areas.{GiveTheRows, HaveHeldFronts}
 use Rattle.run_steps.specs.BeginsAll.{IsOfInputs}
 use Rattle.run_steps.specs.Outset.{Earlier, IsFirstKeeper, Outset, SetsOut, began_with}
-use Rattle.run_steps.specs.Questions.{Questions}
 use Rattle.run_steps.proofs.OutsetMade.{sets_out}
 use Rattle.run_steps.specs.Together.{Areas}
 use Rattle.beat_run.specs.Accounted.{IsOpenedFrom}
 
 module _ {W D : Type 0} (disks : DiskWords D) (wires : WireWords W) (settings : Settings) (in_range : AreInRange settings)
     (desk : TableId) (keeper : Keeping) (store : Standing) (first : IsFirstKeeper desk keeper) (over : keeper.store ≡ store) (items : List W) (from : Areas D) (a b : D) (opened : IsOpenedFrom disks from store a b)
-    (listed doubled : List Listed) (moment : ℕ) (asked : Questions) (before later : Option (List ℕ)) (gives : GivesMoment before moment later) (scanned : Option FolderHistory)
+    (listed doubled : List Listed) (moment asked : ℕ) (before later : Option (List ℕ)) (gives : GivesMoment before moment later) (scanned : Option FolderHistory)
     (of_inputs : All (IsOfInputs settings) listed) where
   abbrev pub outset : Outset W D
   outset = record { settings = settings; once = true; listed = listed; doubled = doubled; moment = moment; shown = scanned; moments = later; wires = items; keeper = keeper; a = a; b = b }
 
   abbrev pub earlier : Earlier D
-  earlier = record { moments = before; questions = asked; a = from.a; b = from.b }
+  earlier = record { moments = before; asked = asked; a = from.a; b = from.b }
 
   its_store : store ≡ first.store
   its_store = sym over ∙ ap (λ (k : Keeping). k.store) first.is

@@ -2,6 +2,7 @@
 use Rattle.std.proofs.Common.{◌≡◌, ◌≢◌, ◌⊎◌, inl, inr, ℕ, suc, ◌≤◌, true, false, List, [], ◌∷◌, ◌++◌, Option, Some, None, IsSome, IfSome, Result, Ok, Err, length, ◌<◌, ◌%◌, arith, refl, sym, ap, subst, ◌∙◌}
 use Rattle.std.proofs.lemmas.List.Elements.{Contains-append_right}
 use Rattle.std.specs.Prelude.{slice_get}
+use Rattle.accounts.specs.FollowedFile.{MayReopenAt}
 use Rattle.accounts.specs.Opened.{IsTailOf, Opened}
 use Rattle.accounts.specs.Turning.{IsTurnedSo}
 use Rattle.accounts.proofs.Lists.{each_then}
@@ -39,6 +40,7 @@ use Rattle.run_steps.specs.Beginning.{AdmitsAt, AsksKey, Beginning, BeginsFile, 
 use Rattle.run_steps.specs.BeginsAll.{file_at}
 use Rattle.run_steps.specs.Begun.{noted_begin}
 use Rattle.run_steps.specs.FolderSeen.{FolderSeen}
+use Rattle.run_steps.specs.LastEpoch.{HasAnswered}
 use Rattle.run_steps.specs.Releasing.{closing_of, with_events}
 use Rattle.run_steps.specs.ReadBehind.{ReadsBehind, ReadsWhereNoFault}
 use Rattle.run_steps.specs.RunState.{Finished, Leaving, Reading}
@@ -209,6 +211,9 @@ module _ {T W L D : Type 0} (words : Words T W L D) (reads : (disk : D) → IfSo
       not_over : (harvester : Harvester T) → IsOpenedFor words.tails start.settings (file_at start.opening slot listed now) tail harvester → harvester.reader.stage ≢ stage.Over
       not_over harvester is over = let no : history.Over ≡ history.Reads = sym (ap stage_of over) ∙ is.told.held.holds.follows.stage in cc
 
+      answered : (harvester : Harvester T) → IsOpenedFor words.tails start.settings (file_at start.opening slot listed now) tail harvester → HasAnswered harvester
+      answered harvester is = subst MayReopenAt (sym is.told.held.holds.follows.stage) tt
+
       -- and its tail was only asked for its key
       reads_so : (harvester : Harvester T) → IsOpenedFor words.tails start.settings (file_at start.opening slot listed now) tail harvester → ReadsWhereNoFault words.tails.told words.tails.faults harvester
       reads_so harvester is none =
@@ -230,6 +235,7 @@ module _ {T W L D : Type 0} (words : Words T W L D) (reads : (disk : D) → IfSo
         (begins_next words reads counts start moments a b now old.folder.told old.crew old.keeper slot begins of.one (so is.mid.folder.told is.fresh is.tail opens is.keyed key key_is) new.keeper
         (subst (λ (k : Keeping). TellsNotes (noted_begin of.one.begin ∷ []) k new.keeper) is.opened.keeper tells) harvester
         (turns is.mid.folder.told is.fresh is.tail opens is.keyed key key_is harvester is.follows.opened) (not_over is.mid.folder.told is.fresh is.tail opens is.keyed key key_is harvester is.follows.opened)
+        (answered is.mid.folder.told is.fresh is.tail opens is.keyed key key_is harvester is.follows.opened)
         (reads_so is.mid.folder.told is.fresh is.tail opens is.keyed key key_is harvester is.follows.opened)
         (slot % length old.crew.lanes.items) new.crew
         (subst (λ (c : Crew T W L). AdmitsAt (slot % length c.lanes.items) harvester (lanings c.lanes.items) (lanings new.crew.lanes.items)) is.opened.crew taken.admits)

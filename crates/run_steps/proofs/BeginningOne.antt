@@ -97,6 +97,7 @@ module _ {T W L D : Type 0} (words : Words T W L D) (start : Began D) (moments :
       finished = λ is some. absurd (not_finished is);
       over = over;
       read = λ yet some. record { in_lanes = (stands.files.read tt some).in_lanes; in_left = none_left_read later so_far.left (stands.files.reading refl).none_left };
+      answered = λ may some. stands.files.answered tt some;
       tell = stands.files.tell;
       left_tell = stands.files.left_tell;
       scans = stands.files.scans;

@@ -45,7 +45,7 @@ module _ {T W L : Type 0} (tails : TailWords T) (settings : Settings) (rows : Li
     through_files slot (first ∷ listed) came old new is holds =
         through_files (suc slot) listed is.later is.mid new is.rest (one slot first (Ok is.begun) old is.mid is.first holds)
 
-    through : (listed : List Listed) (result : Result BegunFiles BeginError) (old new : Beginning T W L) → IfOk result (λ files. BeginsAll tails settings rows now listed (came_of files) old new) →
+    pub through : (listed : List Listed) (result : Result BegunFiles BeginError) (old new : Beginning T W L) → IfOk result (λ files. BeginsAll tails settings rows now listed (came_of files) old new) →
         IfErr result (λ what. BeginsSome tails settings rows now listed what old new) → P old → P new
     through listed (Ok files) old new is ended holds =
         let more = moments_are_told rows 0 listed is.mid.keeper new.keeper is.tell in

@@ -79,14 +79,14 @@ module _ {T : Type 0} (numbers : T → Option (ℕ × ℕ)) (told : T → Option
       at zero (h ∷ hs) was all = let is : h ≡ made.before = cc in subst (IsKnown numbers told) is all.0
       at (suc index) (h ∷ hs) was all = at index hs was all.1
 
-  run_stays : Shows → (steps : List Step) (olds news : List (Harvester T)) → Run numbers told faults steps olds news → SomeOf P olds → SomeOf P news
+  pub run_stays : Shows → (steps : List Step) (olds news : List (Harvester T)) → Run numbers told faults steps olds news → SomeOf P olds → SomeOf P news
   run_stays shows [] olds news run some = subst (λ (l : List (Harvester T)). SomeOf P l) (sym run) some
   run_stays shows (step ∷ steps) olds news run some =
       let made = run.1 in
       run_stays shows steps run.0 news run.2 (subst (λ (l : List (Harvester T)). SomeOf P l) (sym made.is)
       (some_still P step.index olds made.before made.after made.was (shows.stays step olds run.0 made) some))
 
-  run_shows : Shows → (steps : List Step) (olds news : List (Harvester T)) → Run numbers told faults steps olds news → AllByRecursion (IsKnown numbers told) olds →
+  pub run_shows : Shows → (steps : List Step) (olds news : List (Harvester T)) → Run numbers told faults steps olds news → AllByRecursion (IsKnown numbers told) olds →
       SomeOf Q steps → SomeOf P news
   run_shows shows [] olds news run known some = absurd some
   run_shows shows (step ∷ steps) olds news run known some =
@@ -108,7 +108,7 @@ module _ {T : Type 0} (tails : TailWords T) (queue box : ℕ) (when : When) (Q :
       ⊎_elim (λ here. inl (run_shows tails.numbers tails.told tails.faults Q P shows keeps.steps old.harvesters new.harvesters keeps.ran known.0 here))
       (λ later. inr (lanes_show are.1 olds news are.3 known.1 later)) (some_parted Q keeps.steps are.1 (subst (SomeOf Q) are.2 some))
 
-  some_but_passes : (lanes others : List (Laning T)) → bare_lanes others ≡ bare_lanes lanes → SomeHarvester P lanes → SomeHarvester P others
+  pub some_but_passes : (lanes others : List (Laning T)) → bare_lanes others ≡ bare_lanes lanes → SomeHarvester P lanes → SomeHarvester P others
   some_but_passes [] others same some = absurd some
   some_but_passes (lane ∷ lanes) [] same some = absurd cc
   some_but_passes (lane ∷ lanes) (other ∷ others) same some =

@@ -1,11 +1,12 @@
 -- Tails that are closed in a row: none, more of one lane, and those of several lanes.
-use Rattle.std.proofs.Common.{◌≡◌, inl, inr, ⊎_elim, ℕ, ◌||◌, Bool, true, false, List, [], ◌∷◌, ◌++◌, refl, ap, subst, ◌∙◌, append_assoc}
+use Rattle.std.proofs.Common.{◌≡◌, ℕ, ◌||◌, Bool, true, false, List, [], ◌∷◌, ◌++◌, refl, ap, subst, ◌∙◌, append_assoc}
+use Rattle.std.specs.Option.{is_some}
 use Rattle.harvester.specs.declared.harvester.Harvester.{Harvester}
 use Rattle.lanes.specs.Laning.{Laning, ReleasesAt}
-use Rattle.rounds.specs.Pairs.{SomeOf}
 use Rattle.rounds.specs.Words.{TailWords}
-use Rattle.run_steps.specs.ClosesTail.{ClosesFailed, ClosesSome, ClosesTail, ClosesTails, HasFailedFile, Readers}
+use Rattle.run_steps.specs.ClosesTail.{ClosesFailed, ClosesSome, ClosesTail, ClosesTails, Readers}
 use Rattle.run_steps.specs.FolderSeen.{Closes, FolderSeen}
+use Rattle.run_steps.specs.LastEpoch.{IsInEpoch}
 
 abbrev at : {T : Type 0} → FolderSeen → List (Laning T) → Readers T
 at folder lanes = record { folder = folder; lanes = lanes }
@@ -14,10 +15,12 @@ module _ {T : Type 0} (tails : TailWords T) where
   -- ---- one
 
   -- of a lane alone
-  pub closes_at : (seat : ℕ) (one : Harvester T) (lane after : Laning T) (old new : FolderSeen) → ReleasesAt seat lane after one → Closes tails one.tail old new → ClosesTail tails one (at old (lane ∷ [])) (at new (after ∷ []))
-  closes_at seat one lane after old new released closes = record {
+  pub closes_at : (seat : ℕ) (one : Harvester T) (lane after : Laning T) (old new : FolderSeen) → ReleasesAt seat lane after one → Closes tails one.tail old new → IsInEpoch tails one →
+      ClosesTail tails one (at old (lane ∷ [])) (at new (after ∷ []))
+  closes_at seat one lane after old new released closes in_epoch = record {
     lets_go = record { front = []; lane = lane; back = []; were = refl; after = after; seat = seat; released = released; are = refl };
     closes = closes;
+    in_epoch = in_epoch;
   }
 
   beside_one : (front : Laning T) (one : Harvester T) (old new : Readers T) → ClosesTail tails one old new → ClosesTail tails one (at old.folder (front ∷ old.lanes)) (at new.folder (front ∷ new.lanes))
@@ -35,6 +38,7 @@ module _ {T : Type 0} (tails : TailWords T) where
           are = ap (λ (l : List (Laning T)). front ∷ l) go.are;
         };
         closes = closes.closes;
+        in_epoch = closes.in_epoch;
       }
 
   before_one : (back : List (Laning T)) (one : Harvester T) (old new : Readers T) → ClosesTail tails one old new → ClosesTail tails one (at old.folder (old.lanes ++ back)) (at new.folder (new.lanes ++ back))
@@ -52,6 +56,7 @@ module _ {T : Type 0} (tails : TailWords T) where
           are = ap (λ (l : List (Laning T)). l ++ back) go.are ∙ append_assoc go.front (go.after ∷ go.back) back;
         };
         closes = closes.closes;
+        in_epoch = closes.in_epoch;
       }
 
   -- ---- some
@@ -90,20 +95,20 @@ module _ {T : Type 0} (tails : TailWords T) where
   -- ---- those that failed
 
   pub none_failed : (folder : FolderSeen) → ClosesFailed tails false (at folder []) (at folder [])
-  none_failed folder = record { closes = closes_none (at folder []); lets_go = tt; some = λ is. absurd (let no : false ≡ true = is in cc); none = λ is. refl }
+  none_failed folder = record { closes = closes_none (at folder []); lets_go = tt; failed_is = refl; none = λ is. refl }
 
   pub failed_lanes : (here later : Bool) (lane after : Laning T) (lanes others : List (Laning T)) (old mid new : FolderSeen) → ClosesFailed tails here (at old (lane ∷ [])) (at mid (after ∷ [])) →
       ClosesFailed tails later (at mid lanes) (at new others) → ClosesFailed tails (here || later) (at old (lane ∷ lanes)) (at new (after ∷ others))
   failed_lanes here later lane after lanes others old mid new first then = record {
     closes = closes_lanes lane after lanes others old mid new first.closes then.closes;
     lets_go = (first.lets_go.0, then.lets_go);
-    some = some here later first.some then.some;
+    failed_is = (λ k. (first.failed_is ∙ or_none (is_some lane.tally.failed)) k || then.failed_is k);
     none = none here later first.none then.none;
   }
     where
-      some : (one other : Bool) → (one ≡ true → SomeOf HasFailedFile (lane ∷ [])) → (other ≡ true → SomeOf HasFailedFile lanes) → (one || other) ≡ true → SomeOf HasFailedFile (lane ∷ lanes)
-      some true other its theirs is = ⊎_elim (λ failed. inl failed) (λ no. absurd no) (its refl)
-      some false other its theirs is = inr (theirs is)
+      or_none : (one : Bool) → (one || false) ≡ one
+      or_none true = refl
+      or_none false = refl
 
       none : (one other : Bool) → (one ≡ false → at mid (after ∷ []) ≡ at old (lane ∷ [])) → (other ≡ false → at new others ≡ at mid lanes) → (one || other) ≡ false →
           at new (after ∷ others) ≡ at old (lane ∷ lanes)

@@ -47,6 +47,7 @@ use Rattle.run_steps.specs.ReadBehind.{ReadsWhereNoFault}
 use Rattle.run_steps.specs.RunState.{Finished, Reading, RunState}
 use Rattle.run_steps.specs.Shown.{HasShown}
 use Rattle.run_steps.specs.SoFar.{SoFar, files_in, files_of}
+use Rattle.run_steps.specs.LastEpoch.{HasAnswered}
 use Rattle.run_steps.specs.Stands.{AreCounted, AreTurnedIn, HaveGiven, Stands, watch_of}
 use Rattle.run_steps.proofs.AreRead.{none_left_read}
 use Rattle.run_steps.proofs.Giving.{FirstGiven, first_given}
@@ -274,6 +275,7 @@ module _ {T W L D : Type 0} (words : Words T W L D) (start : Began D) (crew : Cr
           in_lanes = each_of_none (ReadsWhereNoFault words.tails.told words.tails.faults) (lanings crew.lanes.items) none;
           in_left = none_left_read start.shown [] refl;
         };
+        answered = λ may some. record { in_lanes = each_of_none HasAnswered (lanings crew.lanes.items) none; in_left = tt };
         tell = λ some. each_of_none (λ (h : Harvester T). IsSome (words.tails.told h.tail)) (lanings crew.lanes.items) none;
         left_tell = λ some. tt;
         scans = record { none_with_once = λ once. refl; timed = given.given.among; known = λ some. tt };

@@ -1,5 +1,5 @@
 -- What is known of files that were each followed or skipped: of one of them by its place, and of all of them as more is known of each.
-use Rattle.std.proofs.Common.{◌≡◌, ◌⊎◌, inl, inr, ℕ, zero, suc, ◌+◌, ◌≤◌, List, [], ◌∷◌, Some, None, refl, subst, arith}
+use Rattle.std.proofs.Common.{◌≡◌, ◌⊎◌, inl, inr, ℕ, zero, suc, ◌+◌, ◌≤◌, List, [], ◌∷◌, length, Some, None, refl, ap, subst, arith}
 use Rattle.std.specs.Prelude.{slice_get}
 use Rattle.prospect.specs.declared.listed.Listed.{Listed}
 use Rattle.report.specs.declared.passing.Passing.{Passing}
@@ -42,6 +42,34 @@ module _ (Follows : ℕ → Listed → Type 0) (Skips : ℕ → Listed → ℕ �
       let since = skips.since in
       subst (λ (n : ℕ). Follows n one ⊎ IsSkippedSince Skips place n one) here
       (skipped_before place (suc skips.opening) (suc slot + k) one (omega (arith, since)) (came_so (suc slot) (suc skips.opening) listed skips.later skips.rest k one at))
+
+  -- ---- where as many paths were told as there are files
+
+  at_most : (slot place : ℕ) (listed : List Listed) (passed : List Passing) → FollowsOrSkips Follows Skips slot place listed passed → length passed ≤ length listed
+  at_most slot place [] passed all = omega (arith, ap (λ (l : List Passing). length l) all)
+  at_most slot place (first ∷ listed) passed (inl follows) = let rest = at_most (suc slot) place listed passed follows.1 in omega (arith, rest)
+  at_most slot place (first ∷ listed) passed (inr skips) =
+      let rest = at_most (suc slot) (suc skips.opening) listed skips.later skips.rest in
+      let are = ap (λ (l : List Passing). length l) skips.passed_are in
+      omega (arith, rest, are)
+
+  -- none of them was followed
+  pub none_followed : (slot place : ℕ) (listed : List Listed) (passed : List Passing) → FollowsOrSkips Follows Skips slot place listed passed → length passed ≡ length listed →
+      FollowsOrSkips (λ slot one. ⊥) Skips slot place listed passed
+  none_followed slot place [] passed all as_many = all
+  none_followed slot place (first ∷ listed) passed (inl follows) as_many =
+      absurd (let rest = at_most (suc slot) place listed passed follows.1 in omega (arith, rest, as_many))
+  none_followed slot place (first ∷ listed) passed (inr skips) as_many =
+      let are = ap (λ (l : List Passing). length l) skips.passed_are in
+      inr (record {
+        opening = skips.opening;
+        since = skips.since;
+        why = skips.why;
+        skips = skips.skips;
+        later = skips.later;
+        passed_are = skips.passed_are;
+        rest = none_followed (suc slot) (suc skips.opening) listed skips.later skips.rest (omega (arith, as_many, are));
+      })
 
   module _ (FollowsThen : ℕ → Listed → Type 0) (SkipsThen : ℕ → Listed → ℕ → Why → Type 0) (At : ℕ → Listed → Type 0) (least : ℕ)
       (followed : (slot : ℕ) (one : Listed) → At slot one → Follows slot one → FollowsThen slot one)

@@ -15,6 +15,7 @@ use Rattle.run_steps.specs.ClosesTail.{ClosesTails, Readers}
 use Rattle.run_steps.specs.Goes.{Goes, Keeps, StepWords, Stop, moments_at, readers_at, state_at}
 use Rattle.run_steps.specs.MetBy.{GoesOn}
 use Rattle.run_steps.specs.MetIn.{NoneFailed}
+use Rattle.run_steps.specs.Onward.{rules_of}
 use Rattle.run_steps.specs.Readiness.{IsAbleIn, IsReadyIn}
 use Rattle.run_steps.specs.RunState.{Leaving, Phase, phase_left}
 use Rattle.run_steps.specs.declared.context.Context.{Context}
@@ -62,7 +63,7 @@ module _ {T W L D F K B : Type 0} {words : StepWords T W L D F K B} {context : C
       same_clock = refl;
       same_bell = same;
     };
-    onward = onward_by_nothing words.all context.once (state_at words now);
+    onward = onward_by_nothing words.all (rules_of context) (state_at words now);
   } where
     still_none : (ended : Option Met) → IfNone ended (NoneFailedAt context now → NoneFailedAt context now)
     still_none None = λ none. none
@@ -107,7 +108,7 @@ module _ {T W L D F K B : Type 0} {words : StepWords T W L D F K B} {context : C
       Goes words context met first last
   goes_by_two {met = met} {first = first} {mid = mid} {last = last} one then = record {
     keeps = keeps_by_two one.keeps then.keeps;
-    onward = onward_by_two words.all context.once (state_at words first) (state_at words mid) (state_at words last) (one.keeps.at_rest tt) one.onward then.onward;
+    onward = onward_by_two words.all (rules_of context) (state_at words first) (state_at words mid) (state_at words last) (one.keeps.at_rest tt) one.onward then.onward;
   }
 
   keeps_closing : {met : Option Met} {first mid : Stop T W L D F K B} (phase : Phase) (closed : List (Harvester T)) (folder : MutBor F) (lanes : Vec (Lane T) Global) → Keeps words context met first mid →
@@ -150,7 +151,7 @@ module _ {T W L D F K B : Type 0} {words : StepWords T W L D F K B} {context : C
       Goes words context met first (record mid { phase = phase_left mid.phase; crew = record mid.crew { lanes = lanes }; system = record mid.system { folder = folder } })
   goes_then_closes {met = met} {first = first} {mid = mid} closed folder lanes goes closes same = record {
     keeps = keeps_closing (phase_left mid.phase) closed folder lanes goes.keeps closes same;
-    onward = onward_then words.all context.once (state_at words first) (state_at words mid)
+    onward = onward_then words.all (rules_of context) (state_at words first) (state_at words mid)
         (state_at words (record mid { phase = phase_left mid.phase; crew = record mid.crew { lanes = lanes }; system = record mid.system { folder = folder } })) goes.onward
         (closing_onward words.all closed (words.seen mid.system.folder.now) (words.seen folder.now) (moments_at words mid) mid.crew lanes mid.storing mid.phase closes);
   }
@@ -162,7 +163,7 @@ module _ {T W L D F K B : Type 0} {words : StepWords T W L D F K B} {context : C
       Goes words context met first (record mid { crew = record mid.crew { lanes = lanes }; system = record mid.system { folder = folder } })
   goes_then_stays {met = met} {first = first} {mid = mid} closed folder lanes goes closes same none = record {
     keeps = keeps_closing mid.phase closed folder lanes goes.keeps closes same;
-    onward = onward_then words.all context.once (state_at words first) (state_at words mid)
+    onward = onward_then words.all (rules_of context) (state_at words first) (state_at words mid)
         (state_at words (record mid { crew = record mid.crew { lanes = lanes }; system = record mid.system { folder = folder } })) goes.onward
         (same_onward words.all (words.seen mid.system.folder.now) (words.seen folder.now) (moments_at words mid) mid.crew lanes mid.storing mid.phase none);
   }
@@ -195,7 +196,7 @@ module _ {T W L D F K B : Type 0} {words : StepWords T W L D F K B} {context : C
       Goes words context (Some now) first (record last { phase = Leaving })
   goes_as {met = met} {first = first} {last = last} now goes_on goes = record {
     keeps = keeps_as (Some now) Leaving goes_on tt goes.keeps;
-    onward = onward_then words.all context.once (state_at words first) (state_at words last) (state_at words (record last { phase = Leaving })) goes.onward
+    onward = onward_then words.all (rules_of context) (state_at words first) (state_at words last) (state_at words (record last { phase = Leaving })) goes.onward
         (leaving_onward words.all (words.seen last.system.folder.now).told (moments_at words last) last.crew last.storing last.phase);
   }
 
@@ -203,6 +204,6 @@ module _ {T W L D F K B : Type 0} {words : StepWords T W L D F K B} {context : C
   pub goes_leaving : {first last : Stop T W L D F K B} → Goes words context None first last → Goes words context None first (record last { phase = Leaving })
   goes_leaving {first = first} {last = last} goes = record {
     keeps = keeps_as None Leaving (λ on. on) goes.keeps.none_failed goes.keeps;
-    onward = onward_then words.all context.once (state_at words first) (state_at words last) (state_at words (record last { phase = Leaving })) goes.onward
+    onward = onward_then words.all (rules_of context) (state_at words first) (state_at words last) (state_at words (record last { phase = Leaving })) goes.onward
         (leaving_onward words.all (words.seen last.system.folder.now).told (moments_at words last) last.crew last.storing last.phase);
   }

@@ -13,6 +13,7 @@ use Rattle.run_steps.specs.CarriersFail.{sending}
 use Rattle.run_steps.specs.LastSteps.{HandsOn, LastSteps, StoresAll, state_in, written_by}
 use Rattle.run_steps.specs.Met.{AreLeft}
 use Rattle.run_steps.specs.MetBy.{GoesOn, HasFaults}
+use Rattle.run_steps.specs.Onward.{rules_of}
 use Rattle.run_steps.specs.Settling.{IsMetByStoring, IsStoredAs, Written}
 use Rattle.run_steps.specs.Readiness.{IsAbleIn, IsReadyIn}
 use Rattle.run_steps.specs.declared.context.Context.{Context}
@@ -20,6 +21,7 @@ use Rattle.run_steps.specs.declared.met.Met.{Met}
 use Rattle.run_steps.specs.declared.met.Met.TheVariants.{DiskFault, Done, Epochs, FolderFault, NoMemory, NoNative, Stopped, Unreachable}
 use Rattle.run_steps.proofs.FailingRounds.{fail_by_nothing, fail_by_two}
 use Rattle.run_steps.proofs.FailingStores.{fail_by_settling, none_failed_by_settling}
+use Rattle.run_steps.proofs.HoldingNothing.{nothing_by_settling}
 use Rattle.run_steps.proofs.LinksStay.{links_by_settling, links_on, links_same}
 use Rattle.run_steps.proofs.MetBy.{rose_since}
 use Rattle.run_steps.proofs.Onward.{onward_by_nothing, onward_by_two, settle_onward}
@@ -28,7 +30,7 @@ use Rattle.run_steps.proofs.Settling.{some_still, none_still, settled_still}
 module _ {T W L D : Type 0} {words : Words T W L D} {context : Context} where
   pub hands_on_nothing : (met : Option Met) (now : Crewing T W L D) → IsAbleIn words.tails context now → (GoesOn met → IsReadyIn words.tails context now) → HandsOn words context met now now
   hands_on_nothing met now able ready = record {
-    onward = λ shown moments phase. onward_by_nothing words context.once (state_in shown moments phase now);
+    onward = λ shown moments phase. onward_by_nothing words (rules_of context) (state_in shown moments phase now);
     at_rest = λ goes rest. rest;
     ready = ready;
     able = able;
@@ -36,6 +38,7 @@ module _ {T W L D : Type 0} {words : Words T W L D} {context : Context} where
     all_settled = λ settled. settled;
     slots = refl;
     faults_stay = λ some. some;
+    hold_nothing = λ nothing. nothing;
     links_stay = links_same now.carriers.items;
     failing = λ moments. fail_by_nothing words.links words.wires context.settings.now.output.attempts (sending moments now.carriers.items);
     none_failed = λ none. none;
@@ -50,7 +53,7 @@ module _ {T W L D : Type 0} {words : Words T W L D} {context : Context} where
   -- if the first met nothing
   pub hands_on_by_two : {met : Option Met} {first mid last : Crewing T W L D} → HandsOn words context None first mid → HandsOn words context met mid last → HandsOn words context met first last
   hands_on_by_two {met = met} {first = first} {mid = mid} {last = last} one then = record {
-    onward = λ shown moments phase. onward_by_two words context.once (state_in shown moments phase first) (state_in shown moments phase mid) (state_in shown moments phase last)
+    onward = λ shown moments phase. onward_by_two words (rules_of context) (state_in shown moments phase first) (state_in shown moments phase mid) (state_in shown moments phase last)
         (one.at_rest tt) (one.onward shown moments phase) (then.onward shown moments phase);
     at_rest = λ goes rest. then.at_rest goes (one.at_rest tt rest);
     ready = then.ready;
@@ -59,6 +62,7 @@ module _ {T W L D : Type 0} {words : Words T W L D} {context : Context} where
     all_settled = λ settled. then.all_settled (one.all_settled settled);
     slots = then.slots ∙ one.slots;
     faults_stay = λ some. then.faults_stay (one.faults_stay some);
+    hold_nothing = λ nothing. then.hold_nothing (one.hold_nothing nothing);
     links_stay = links_on first.carriers.items mid.carriers.items last.carriers.items one.links_stay then.links_stay;
     failing = λ moments. fail_by_two words.links words.wires context.settings.now.output.attempts (sending moments first.carriers.items) (sending moments mid.carriers.items)
         (sending moments last.carriers.items) (one.failing moments) one.none_failed (then.failing moments);
@@ -82,6 +86,7 @@ module _ {T W L D : Type 0} {words : Words T W L D} {context : Context} where
     all_settled = on.all_settled;
     slots = on.slots;
     faults_stay = on.faults_stay;
+    hold_nothing = on.hold_nothing;
     links_stay = on.links_stay;
     failing = on.failing;
     none_failed = on.none_failed;
@@ -135,7 +140,7 @@ module _ {T W L D : Type 0} (words : Words T W L D) (context : Context) (reads :
     (keeps : SettlingKeeps words context.outlets.queue.now context.outlets.desk.now (crewing old before) (crewing new after) round) where
   pub hands_on_by_round : (met : Option Met) → IsStoredAs round met → HandsOn words context met (crewing old before) (crewing new after)
   hands_on_by_round met is = record {
-    onward = λ shown moments phase. settle_onward words reads counts context.outlets.queue.now context.outlets.desk.now old new before after round shown context.once moments phase keeps;
+    onward = λ shown moments phase. settle_onward words reads counts context.outlets.queue.now context.outlets.desk.now old new before after round shown (rules_of context) moments phase keeps;
     at_rest = λ goes rest. let well = well_stored round met is goes in
         let after = keeps.at_rest well.0 well.1 (record { settled = rest.settled; committed = rest.committed }) in
         record { settled = after.settled; committed = after.committed };
@@ -145,6 +150,7 @@ module _ {T W L D : Type 0} (words : Words T W L D) (context : Context) (reads :
     all_settled = λ settled. settled_still (lanings old.lanes.items) (lanings new.lanes.items) before.keeper.now after.keeper.now keeps.lanes keeps.collects settled;
     slots = keeps.slots;
     faults_stay = some_still (HasFaults words.tails) (lanings old.lanes.items) (lanings new.lanes.items) keeps.lanes;
+    hold_nothing = nothing_by_settling words context.outlets.queue.now context.outlets.desk.now (crewing old before) (crewing new after) round settles;
     links_stay = links_by_settling words context.outlets.queue.now context.outlets.desk.now (crewing old before) (crewing new after) round settles;
     failing = λ moments. fail_by_settling words context.outlets.queue.now context.outlets.desk.now (crewing old before) (crewing new after) round settles
         context.settings.now.output.attempts moments;

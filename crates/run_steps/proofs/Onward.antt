@@ -1,6 +1,7 @@
 -- The steps of a run that keep what stands of it, as the relation that their contracts name; and none, and two of them.
-use Rattle.std.proofs.Common.{◌≡◌, ◌⊎◌, ℕ, ◌≤◌, Bool, false, true, List, Option, None, IfSome}
+use Rattle.std.proofs.Common.{◌≡◌, ◌⊎◌, ℕ, ◌≤◌, false, true, List, Option, None, IfSome}
 use Rattle.std.specs.List.{AllByRecursion}
+use Rattle.event_tree.specs.declared.settings.Settings.{Settings}
 use Rattle.lanes.specs.Done.{IsDone}
 use Rattle.lanes.specs.declared.run.When.{When}
 use Rattle.mem_queue.specs.BoundedQueue.{BoundedQueue}
@@ -18,41 +19,43 @@ use Rattle.rounds.specs.declared.storing.Storing.{Storing}
 use Rattle.settle_box.specs.BoundedBox.{BoundedBox}
 use Rattle.wire_base.specs.declared.numbers.Slot.{Slot}
 use Rattle.run_steps.specs.Areas.{IsAtRest}
+use Rattle.run_steps.specs.ClosesTail.{some_failed}
 use Rattle.run_steps.specs.MetBy.{IsOverOf, SomeHarvester}
-use Rattle.run_steps.specs.Onward.{Onward}
+use Rattle.run_steps.specs.Onward.{Onward, RunRules}
 use Rattle.run_steps.specs.RunState.{Finished, OutOfEpochs, Phase, Reading, RunState, within}
 use Rattle.run_steps.specs.Stands.{ReadsYet}
 use Rattle.run_steps.proofs.Rounding.{stands_on}
 use Rattle.run_steps.proofs.Settling.{stands_settled}
 
 module _ {T W L D : Type 0} (words : Words T W L D) where
-  pub onward_by_nothing : (once : Bool) (state : RunState T W L D) → Onward words once state state
+  pub onward_by_nothing : (rules : RunRules) (state : RunState T W L D) → Onward words rules state state
   unfolding Onward
-  onward_by_nothing once state start so_far same stands at_rest = record { so_far = so_far; stands = stands }
+  onward_by_nothing rules state start so_far same stands at_rest = record { so_far = so_far; stands = stands }
 
   -- where the areas are at rest behind the first
-  pub onward_by_two : (once : Bool) (first mid last : RunState T W L D) → (IsAtRest words.disks first.keeper first.a first.b → IsAtRest words.disks mid.keeper mid.a mid.b) →
-      Onward words once first mid → Onward words once mid last → Onward words once first last
+  pub onward_by_two : (rules : RunRules) (first mid last : RunState T W L D) → (IsAtRest words.disks first.keeper first.a first.b → IsAtRest words.disks mid.keeper mid.a mid.b) →
+      Onward words rules first mid → Onward words rules mid last → Onward words rules first last
   unfolding Onward
-  onward_by_two once first mid last at_rest one other start so_far same stands began =
+  onward_by_two rules first mid last at_rest one other start so_far same stands began =
       let further = one start so_far same stands began in other start further.so_far same further.stands (λ at_start. at_rest (began at_start))
 
   module _ (reads : (disk : D) → IfSome (words.disks.contents disk) (words.disks.images disk))
       (counts : (disk : D) (since : ℕ) (image : List ℕ) → since ≤ words.disks.moment disk → words.disks.images disk image → words.disks.images_since disk since image)
       (queue : BoundedQueue) (desk : BoundedBox) (old new : Crew T W L) (before after : Storing D) (round : Round) (shown : Option FolderHistory) where
-    pub round_onward : (when : When) (moments later : Option (List ℕ)) (from phase : Phase) → GivesMoment moments when.now.0 later →
+    pub round_onward : (settings : Settings) (when : When) (moments later : Option (List ℕ)) (from phase : Phase) → GivesMoment moments when.now.0 later →
         Rounds words queue desk when (crewing old before) (crewing new after) round → RoundKeeps words queue desk when (crewing old before) (crewing new after) round →
         ((phase ≡ Reading) ⊎ (phase ≡ Finished) → from ≡ Reading) →
         ((phase ≡ Reading) ⊎ (phase ≡ Finished) → round.epochs ≡ None) → (phase ≡ Finished → (when.last ≡ true) × AllByRecursion IsDone (lanings new.lanes.items)) →
         ((slot : Slot) → phase ≡ OutOfEpochs slot → SomeHarvester (IsOverOf slot) (lanings new.lanes.items)) →
         (ReadsYet phase → (phase ≡ Reading) × (round.memory ≡ false)) →
-        Onward words when.last (within shown moments old before from) (within shown later new after phase)
+        ((phase ≡ Reading) ⊎ (phase ≡ Finished) → (round.memory ≡ false) × (some_failed (lanings new.lanes.items) ≡ false)) →
+        Onward words (record { settings = settings; once = when.last }) (within shown moments old before from) (within shown later new after phase)
     unfolding Onward
-    round_onward when moments later from phase gives ran keeps read none_out done out yet start so_far same stands began =
-        stands_on words queue desk when (crewing old before) (crewing new after) round ran keeps from start so_far shown moments later stands gives same phase read none_out done out yet reads counts began
+    round_onward settings when moments later from phase gives ran keeps read none_out done out yet none_refused start so_far same stands began =
+        stands_on words queue desk when (crewing old before) (crewing new after) round ran keeps from start so_far shown moments later stands gives same.once phase read none_out done out yet none_refused reads counts began
 
-    pub settle_onward : (once : Bool) (moments : Option (List ℕ)) (phase : Phase) → SettlingKeeps words queue desk (crewing old before) (crewing new after) round →
-        Onward words once (within shown moments old before phase) (within shown moments new after phase)
+    pub settle_onward : (rules : RunRules) (moments : Option (List ℕ)) (phase : Phase) → SettlingKeeps words queue desk (crewing old before) (crewing new after) round →
+        Onward words rules (within shown moments old before phase) (within shown moments new after phase)
     unfolding Onward
-    settle_onward once moments phase keeps start so_far same stands began =
+    settle_onward rules moments phase keeps start so_far same stands began =
         stands_settled words queue desk (crewing old before) (crewing new after) round keeps start so_far shown moments phase stands reads counts began

@@ -1,26 +1,21 @@
 -- A run that ended for want of epochs read a file that kept its key at each fall of its length, and whose first epoch and these falls are
 -- one above the last epoch.
-use Rattle.std.proofs.Common.{◌≡◌, inl, inr, ℕ, ◌+◌, List, [], ◌∷◌, ◌++◌, Contains, length, map, Option, Some, None, IsSome, IfSome, refl, sym, ap, subst, ◌∙◌, length-append, arith, false}
+use Rattle.std.proofs.Common.{◌≡◌, inl, inr, ℕ, ◌+◌, List, [], ◌∷◌, ◌++◌, Contains, length, map, Option, Some, None, IsSome, IfSome, refl, sym, ap, subst, ◌∙◌, arith, false}
 use Rattle.std.specs.Prelude.{slice_get}
 use Rattle.std.specs.List.{AllByRecursion}
 use Rattle.accounts.proofs.Askings.{asking_reads}
-use Rattle.accounts.proofs.Falls.{fallen_are, segments_with_fall}
 use Rattle.accounts.proofs.Joined.{joined}
 use Rattle.accounts.proofs.JoinedFile.{joined_turned}
 use Rattle.accounts.proofs.Parting.{all_kept}
-use Rattle.accounts.proofs.Segmented.{as_many}
 use Rattle.accounts.proofs.Slots.{file_is_read}
 use Rattle.accounts.specs.Opened.{Opened}
 use Rattle.accounts.specs.Parted.{has_lost_key, loses_key_at}
 use Rattle.slot_parts.specs.Tellings.{AreNumberedFrom}
 use Rattle.accounts.specs.ToldFile.{AreEpochsFrom, IsToldFile}
 use Rattle.accounts.specs.Turned.{Turned}
-use Rattle.file_identity.specs.Answers.{with_numbers}
 use Rattle.file_identity.specs.AskedAgain.{IsRead, KeepsKey}
-use Rattle.file_looks.specs.Segment.{Segment, segments_of}
-use Rattle.harvester.specs.History.{History, Over, Stage, Telling}
-use Rattle.harvester.specs.Looked.{HasFallen, IsLookedAt, StandBehind}
-use Rattle.outside.specs.Files.{File}
+use Rattle.file_looks.specs.Segment.{segments_of}
+use Rattle.harvester.specs.History.{History, Stage, Telling}
 use Rattle.outside.specs.Folders.{FolderHistory, Opened as OpenedAs}
 use Rattle.outside.specs.Tails.{TailHistory}
 use Rattle.outside.specs.declared.history.Look.{Look}
@@ -47,6 +42,7 @@ use Rattle.run_steps.specs.Stands.{IsLeftSo, watch_of}
 use Rattle.run_steps.specs.declared.met.Met.{Met}
 use Rattle.run_steps.specs.declared.met.Met.TheVariants.{Epochs}
 use Rattle.told_scans.proofs.Members.{each_of, some_is}
+use Rattle.run_steps.proofs.FallsCounted.{falls_are, unanswered_at}
 use Rattle.run_steps.proofs.RunFiles.{none_turned}
 use Rattle.accounts.proofs.Orderly.{member_is}
 
@@ -57,37 +53,9 @@ numbered_behind before [] present numbered = let here = numbered.0 in omega (ari
 numbered_behind before (telling ∷ past) present numbered = let later = numbered_behind (before + 1) past present numbered.2 in omega (arith, later)
 
 -- as many behind the first as epochs are over
-present_epoch : (epoch base : ℕ) (past : List Telling) (present : Telling) → AreEpochsFrom epoch base (past ++ present ∷ []) → present.epoch ≡ epoch + length past
+pub present_epoch : (epoch base : ℕ) (past : List Telling) (present : Telling) → AreEpochsFrom epoch base (past ++ present ∷ []) → present.epoch ≡ epoch + length past
 present_epoch epoch base [] present from = let here = from.0 in omega (arith, here)
 present_epoch epoch base (first ∷ past) present from = let later = numbered_behind epoch past present from.2 in omega (arith, later)
-
--- ---- the falls of its length
-
--- as many as epochs are over, and one more
-falls_are : (numbers : Option (ℕ × ℕ)) (h : History) (told : TailHistory) → IsLookedAt numbers h told → h.before ≡ [] → h.stage ≡ Over → falls_in h.begin.base told.looks ≡ length h.past + 1
-falls_are numbers h told looked none over =
-    let many = as_many h file h.past looked.front looked.past in
-    let sum = length-append looked.front (looked.last ∷ fell_at ∷ []) in
-    let long = ap length segments in
-    omega (arith, many, sum, long)
-  where
-    file : File
-    file = with_numbers numbers told.file
-
-    fell : HasFallen h looked.beyond
-    fell = (subst (λ (s : Stage). StandBehind h file s looked.beyond) over looked.stand_behind).fallen
-
-    fell_at : Segment
-    fell_at = record { place = 0; fall = Some fell.fall; looks = fell.later }
-
-    looks_are : told.looks ≡ looked.since ++ fell.fall ∷ fell.later
-    looks_are = looked.looks_are ∙ ap (λ (l : List Look). l ++ (looked.since ++ looked.beyond)) none ∙ ap (λ (l : List Look). looked.since ++ l) fell.looks_are
-
-    segments : segments_of h.begin.base told.looks ≡ looked.front ++ looked.last ∷ fell_at ∷ []
-    segments =
-        ap (segments_of h.begin.base) looks_are
-        ∙ segments_with_fall h.begin.base looked.since fell.fall fell.later looked.front looked.last looked.segments fell.asks (let to = looked.present.to in let below = fell.below in omega (arith, to, below))
-        ∙ ap (λ (l : List Segment). looked.front ++ looked.last ∷ l) (fallen_are fell.fall fell.later fell.only_reads)
 
 -- ---- one of the files
 
@@ -164,7 +132,8 @@ module _ {T W L D : Type 0} (words : Words T W L D) (start : Began D) (ending : 
       falls : falls_in file.begin.base tail.looks ≡ length h.past + 1
       falls =
           ap (λ (b : Begin). falls_in b.base tail.looks) (sym told.history.begin)
-          ∙ falls_are file.file.numbers (record h { before = [] }) tail (joined file.file.numbers h tail only_asked told.looked) refl last_over.is.over
+          ∙ falls_are file.file.numbers (record h { before = [] }) tail (joined file.file.numbers h tail only_asked told.looked) refl
+          ∙ ap (λ (s : Stage). length h.past + unanswered_at s) last_over.is.over
 
       all_epochs : file.begin.epoch.0 + falls_in file.begin.base tail.looks ≡ MAX_EPOCH + 1
       all_epochs =

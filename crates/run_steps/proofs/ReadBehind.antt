@@ -88,7 +88,7 @@ not_risen before now none (inl more) = omega (arith, none, more)
 not_risen before now none (inr end) = omega (arith, none, end)
 
 -- the history goes on from what was asked before
-before_stays : (now : ℕ) (t : Turn) (did : Did) (h : History) → (after_did now t did h).before ≡ h.before
+pub before_stays : (now : ℕ) (t : Turn) (did : Did) (h : History) → (after_did now t did h).before ≡ h.before
 before_stays now (turn.Issued parcel) did h = refl
 before_stays now (turn.Passed span rule) did h = refl
 before_stays now turn.More did h = refl
@@ -128,7 +128,7 @@ module _ {T : Type 0} (numbers : T → Option (ℕ × ℕ)) (told : T → Option
       ∙ sym has_told.held.holds.position.position
 
   pub reads_on : EachTurnKeeps numbers told faults FoundMemory IsReadSo
-  reads_on step before after memory turned was = record {
+  reads_on step before after memory goes_on turned was = record {
     history = after_did step.now.0 step.turn g.did h;
     has_told = g.has_told;
     only_asked = subst OnlyRead (sym (before_stays step.now.0 step.turn g.did h)) was.only_asked;

@@ -1,8 +1,10 @@
 -- A round behind which files that failed are closed: the run goes on without them, or has met a fault.
-use Rattle.std.proofs.Common.{◌≡◌, ◌≢◌, ◌⊎◌, inl, inr, ⊎_elim, ℕ, ◌||◌, ◌≤◌, Bool, true, false, IfErr, IfOk, IfSome, Option, None, Some, Vec, refl, sym, ap, subst, ◌∙◌}
+use Rattle.std.proofs.Common.{◌≡◌, ◌≢◌, ◌⊎◌, inl, inr, ⊎_elim, ℕ, ◌||◌, ◌≤◌, Bool, true, false, List, [], ◌∷◌, IfErr, IfNone, IfOk, IfSome, Option, None, Some, Vec, refl, sym, ap, subst, ◌∙◌}
 use Rattle.std.proofs.lemmas.Bool.{or_parts}
 use Rattle.std.specs.Borrow.{MutBor}
+use Rattle.std.specs.Option.{is_some}
 use Rattle.std.specs.declared.alloc.Global.{Global}
+use Rattle.lanes.specs.Laning.{Laning}
 use Rattle.lanes.specs.declared.lane.Lane.{Lane}
 use Rattle.rounds.specs.Crewed.{lanings}
 use Rattle.rounds.specs.Crewing.{crewing}
@@ -10,8 +12,9 @@ use Rattle.rounds.specs.Pairs.{SomeOf}
 use Rattle.rounds.specs.Words.{TailWords, Words}
 use Rattle.rounds.specs.declared.crew.Crew.{Crew}
 use Rattle.rounds.specs.declared.storing.Storing.{Storing}
-use Rattle.run_steps.specs.ClosesTail.{ClosesFailed, HasFailedFile, Readers, ReadersGo}
+use Rattle.run_steps.specs.ClosesTail.{ClosesFailed, HasFailedFile, Readers, ReadersGo, some_failed}
 use Rattle.run_steps.specs.Goes.{Goes, StepWords, Stop, stop_at}
+use Rattle.run_steps.specs.Looking.{LooksInRound}
 use Rattle.run_steps.specs.Met.{IsTelling}
 use Rattle.run_steps.specs.MetBy.{HasFaults, HasMetFault, IsEndedBy, IsEndedRound, IsMetBy, Since, SomeHarvester, phase_after, phase_met, phase_reading}
 use Rattle.run_steps.specs.MetIn.{met_behind, read_by}
@@ -20,13 +23,22 @@ use Rattle.run_steps.specs.declared.context.Context.{Context}
 use Rattle.run_steps.specs.declared.context.System.{System}
 use Rattle.run_steps.specs.declared.met.Met.{Met}
 use Rattle.run_steps.specs.declared.met.Met.TheVariants.{DiskFault, Done, Epochs, FolderFault, NoMemory, NoNative, Stopped, Unreachable}
-use Rattle.run_steps.proofs.GoesOn.{goes_as, goes_by_asking, goes_by_two, goes_leaving, goes_then_closes, goes_then_stays}
+use Rattle.run_steps.proofs.GoesOn.{goes_as, goes_by_asking, goes_by_two, goes_then_closes, goes_then_stays}
 use Rattle.run_steps.proofs.MetBy.{ended_behind, ended_round, goes_on_behind, leaves_by_fault}
 use Rattle.run_steps.proofs.ReadersGo.{readers_go_by_some}
 
 pub if_some : {A : Type 0} (P : A → Type 0) (o : Option A) → IfSome o P → (x : A) → o ≡ Some x → P x
 if_some P None some x is = absurd (let no : None ≡ Some x = is in cc)
 if_some P (Some y) some x is = let same : y ≡ x = cc in subst P same some
+
+-- one of the lanes names a failed file
+pub names_failed : {T : Type 0} (lanes : List (Laning T)) → some_failed lanes ≡ true → SomeOf HasFailedFile lanes
+names_failed [] is = absurd (let no : false ≡ true = is in cc)
+names_failed (lane ∷ lanes) is = by_case (is_some lane.tally.failed) refl is (names_failed lanes)
+  where
+    by_case : (b : Bool) → is_some lane.tally.failed ≡ b → (b || some_failed lanes) ≡ true → (some_failed lanes ≡ true → SomeOf HasFailedFile lanes) → SomeOf HasFailedFile (lane ∷ lanes)
+    by_case true here is later = inl here
+    by_case false here is later = inr (later is)
 
 -- a run in which some file met a fault tells no report
 untold_behind : (met : Met) → ¬ (IsTelling (met_behind true met))
@@ -62,35 +74,46 @@ module _ {T W L D F K B : Type 0} (words : StepWords T W L D F K B) (context : C
 
   module _ (closes : ClosesFailed words.all.tails failed (record { folder = words.seen system.folder.now; lanes = lanings crew.lanes.items }) (record { folder = words.seen folder.now; lanes = lanings lanes.items })) where
     -- it goes on
-    goes_none : (now late : Bool) → faulty ≡ now → failed ≡ late → Goes words context None start (stop_at (phase_after now None) crew storing system) →
+    goes_none : (now late : Bool) → failed ≡ late → Goes words context None start (stop_at (phase_after (now || late) None) crew storing system) →
         Goes words context None start (at_end (phase_reading (now || late)))
-    goes_none true late is fails goes = goes_then_closes closes.closes.closed folder lanes goes closes.closes.each same
-    goes_none false true is fails goes = goes_leaving (goes_then_closes closes.closes.closed folder lanes goes closes.closes.each same)
-    goes_none false false is fails goes = goes_then_stays closes.closes.closed folder lanes goes closes.closes.each same (closes.none fails)
+    goes_none true late fails goes = goes_then_closes closes.closes.closed folder lanes goes closes.closes.each same
+    goes_none false true fails goes = goes_then_closes closes.closes.closed folder lanes goes closes.closes.each same
+    goes_none false false fails goes = goes_then_stays closes.closes.closed folder lanes goes closes.closes.each same (closes.none fails)
 
     -- it has met this
-    goes_some : (now late : Bool) (met : Met) → faulty ≡ now → failed ≡ late → Goes words context (Some met) start (stop_at (phase_after now (Some met)) crew storing system) →
+    goes_some : (now late : Bool) (met : Met) → failed ≡ late → Goes words context (Some met) start (stop_at (phase_after (now || late) (Some met)) crew storing system) →
         Goes words context (Some (met_behind (now || late) met)) start (at_end (phase_met (met_behind (now || late) met)))
-    goes_some true late met is fails goes = subst (λ (p : Phase). Goes words context (Some (met_behind true met)) start (at_end p)) (sym (leaves_by_fault met))
+    goes_some true late met fails goes = subst (λ (p : Phase). Goes words context (Some (met_behind true met)) start (at_end p)) (sym (leaves_by_fault met))
         (goes_as (met_behind true met) (goes_on_behind true met) (goes_then_closes closes.closes.closed folder lanes goes closes.closes.each same))
-    goes_some false true met is fails goes = subst (λ (p : Phase). Goes words context (Some (met_behind true met)) start (at_end p)) (sym (leaves_by_fault met))
+    goes_some false true met fails goes = subst (λ (p : Phase). Goes words context (Some (met_behind true met)) start (at_end p)) (sym (leaves_by_fault met))
         (goes_as (met_behind true met) (goes_on_behind true met) (goes_then_closes closes.closes.closed folder lanes goes closes.closes.each same))
-    goes_some false false met is fails goes = goes_then_stays closes.closes.closed folder lanes goes closes.closes.each same (closes.none fails)
+    goes_some false false met fails goes = goes_then_stays closes.closes.closed folder lanes goes closes.closes.each same (closes.none fails)
 
-    module _ (met : Option Met) (goes : (now : Bool) → Goes words context met (stop_at (phase_reading now) old before first) (stop_at (phase_after now met) crew storing system)) where
+    module _ (met : Option Met) (goes : (now : Bool) → Goes words context met (stop_at (phase_reading now) old before first) (stop_at (phase_after (now || some_failed (lanings crew.lanes.items)) met) crew storing system)) where
+      goes_so : Goes words context met start (stop_at (phase_after (faulty || failed) met) crew storing system)
+      goes_so = subst (λ (late : Bool). Goes words context met start (stop_at (phase_after (faulty || late) met) crew storing system)) (sym closes.failed_is) (goes faulty)
+
       pub goes_on_so : IfOk (read_by (faulty || failed) met) (λ now. Goes words context None start (at_end (phase_reading now)))
-      goes_on_so = by_case met (goes faulty)
+      goes_on_so = by_case met goes_so
         where
-          by_case : (o : Option Met) → Goes words context o start (stop_at (phase_after faulty o) crew storing system) → IfOk (read_by (faulty || failed) o) (λ now. Goes words context None start (at_end (phase_reading now)))
-          by_case None is = goes_none faulty failed refl refl is
+          by_case : (o : Option Met) → Goes words context o start (stop_at (phase_after (faulty || failed) o) crew storing system) → IfOk (read_by (faulty || failed) o) (λ now. Goes words context None start (at_end (phase_reading now)))
+          by_case None is = goes_none faulty failed refl is
           by_case (Some met) is = tt
 
       pub ends_so : IfErr (read_by (faulty || failed) met) (λ by. Goes words context (Some by) start (at_end (phase_met by)))
-      ends_so = by_case met (goes faulty)
+      ends_so = by_case met goes_so
         where
-          by_case : (o : Option Met) → Goes words context o start (stop_at (phase_after faulty o) crew storing system) → IfErr (read_by (faulty || failed) o) (λ by. Goes words context (Some by) start (at_end (phase_met by)))
+          by_case : (o : Option Met) → Goes words context o start (stop_at (phase_after (faulty || failed) o) crew storing system) → IfErr (read_by (faulty || failed) o) (λ by. Goes words context (Some by) start (at_end (phase_met by)))
           by_case None is = tt
-          by_case (Some met) is = goes_some faulty failed met refl refl is
+          by_case (Some met) is = goes_some faulty failed met refl is
+
+    -- where none failed, the lanes are as the round left them
+    pub looks_so : (met : Option Met) → IfNone met (some_failed (lanings crew.lanes.items) ≡ false → LooksInRound words.all.tails (lanings old.lanes.items) (lanings crew.lanes.items)) →
+        IfOk (read_by (faulty || failed) met) (λ now. now ≡ false → LooksInRound words.all.tails (lanings old.lanes.items) (lanings lanes.items))
+    looks_so (Some met) looks = tt
+    looks_so None looks = λ none.
+        let late = (or_parts faulty failed none).1 in
+        subst (LooksInRound words.all.tails (lanings old.lanes.items)) (sym (ap (λ (r : Readers T). r.lanes) (closes.none late))) (looks (sym closes.failed_is ∙ late))
 
     -- a fault that was found is counted
     module _ (shows : SomeOf HasFailedFile (lanings crew.lanes.items) → SomeHarvester (HasFaults words.all.tails) (lanings crew.lanes.items)) (since : ℕ)
@@ -99,7 +122,7 @@ module _ {T W L D F K B : Type 0} (words : StepWords T W L D F K B) (context : C
       met_fault is =
           let before : Readers T = record { folder = words.seen system.folder.now; lanes = lanings crew.lanes.items } in
           let after : Readers T = record { folder = words.seen folder.now; lanes = lanings lanes.items } in
-          (readers_go_by_some words.all.tails closes.closes.closed before after closes.closes.each).fault_stays since le (inr (shows (closes.some is)))
+          (readers_go_by_some words.all.tails closes.closes.closed before after closes.closes.each).fault_stays since le (inr (shows (names_failed (lanings crew.lanes.items) (sym closes.failed_is ∙ is))))
 
       pub found_so : (met : Option Met) → IfOk (read_by (faulty || failed) met) (λ now. (faulty ≡ true → now ≡ true) ×
           (now ≡ true → (faulty ≡ true) ⊎ HasMetFault words.all.tails since (words.seen folder.now).faults (lanings lanes.items)))

@@ -1,5 +1,5 @@
 -- Up to where looks read, as reads behind the length count it, and as the segments of the looks do.
-use Rattle.std.proofs.Common.{◌≡◌, ℕ, ◌+◌, ◌<◌, ◌≤◌, Bool, true, false, List, [], ◌∷◌, ◌++◌, None, Some, refl, sym, ap, subst, ◌∙◌, arith, if◌then◌else◌, nat_le, nat_lt}
+use Rattle.std.proofs.Common.{◌≡◌, ℕ, ◌+◌, ◌<◌, ◌≤◌, Bool, true, false, List, [], ◌∷◌, ◌++◌, append-nil, None, Some, refl, sym, ap, subst, ◌∙◌, arith, if◌then◌else◌, nat_le, nat_lt}
 use Rattle.std.proofs.lemmas.Bool.{le-leb, le-ltb, leb-true, lt-ltb, ltb-true}
 use Rattle.std.specs.List.{AllByRecursion}
 use Rattle.file_identity.specs.AskedAgain.{IsRead}
@@ -125,6 +125,45 @@ read_up_to place looks front last are =
     let cut = cut_from false place looks in
     leads_to_the_end false place looks ∙ first_end place cut.looks cut.later
     ∙ ap read_to (last_is (record { place = place; fall = None; looks = cut.looks }) cut.later front last are)
+
+-- ---- reads that only ask for the key
+
+-- nothing is read by them
+pub stays_put : (place : ℕ) (looks : List Look) → OnlyRead looks → place_after false place looks ≡ place
+stays_put place looks only = ap (place_after false place) (sym (append-nil looks)) ∙ stays_there place looks [] only
+
+none_later : (place : ℕ) (looks : List Look) → OnlyRead looks → (cut_from false place looks).later ≡ []
+none_later place [] only = refl
+none_later place (look ∷ looks) only = by_question look.question look.sight only.0 (none_later (place + 0) looks only.1)
+  where
+    by_question : (question : Question) (sight : Sight) → IsRead question → (cut_from false (place + 0) looks).later ≡ [] →
+        (cut_from false place (record { question = question; sight = sight } ∷ looks)).later ≡ []
+    by_question Length sight is others = absurd is
+    by_question (ReadAt at count) sight is others = others
+
+cut_only : (place : ℕ) (looks : List Look) → OnlyRead looks → OnlyRead (cut_from false place looks).looks
+cut_only place [] only = tt
+cut_only place (look ∷ looks) only = by_question look.question look.sight only.0 (cut_only (place + 0) looks only.1)
+  where
+    by_question : (question : Question) (sight : Sight) → IsRead question → OnlyRead (cut_from false (place + 0) looks).looks →
+        OnlyRead (cut_from false place (record { question = question; sight = sight } ∷ looks)).looks
+    by_question Length sight is others = absurd is
+    by_question (ReadAt at count) sight is others = (tt, others)
+
+-- they are one segment
+alone : (place : ℕ) (looks : List Look) (front : List Segment) (last : Segment) → OnlyRead looks → segments_of place looks ≡ front ++ last ∷ [] →
+    record { place = place; fall = None; looks = (cut_from false place looks).looks } ≡ last
+alone place looks front last only are =
+    let cut = cut_from false place looks in
+    let first : Segment = record { place = place; fall = None; looks = cut.looks } in
+    sym (ap (last_of first) (none_later place looks only)) ∙ last_is first cut.later front last are
+
+pub begins_there : (place : ℕ) (looks : List Look) (front : List Segment) (last : Segment) → OnlyRead looks → segments_of place looks ≡ front ++ last ∷ [] → last.place ≡ place
+begins_there place looks front last only are = ap (λ (s : Segment). s.place) (sym (alone place looks front last only are))
+
+pub only_read_in : (place : ℕ) (looks : List Look) (front : List Segment) (last : Segment) → OnlyRead looks → segments_of place looks ≡ front ++ last ∷ [] → OnlyRead last.looks
+only_read_in place looks front last only are =
+    subst (λ (s : Segment). OnlyRead s.looks) (alone place looks front last only are) (cut_only place looks only)
 
 -- ---- the looks of a turn
 

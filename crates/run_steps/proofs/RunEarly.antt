@@ -344,6 +344,9 @@ module _ {D : Type 0} (disks : DiskWords D) (start : Began D) (folder : FolderTo
       drained = λ at_rest is_done. absurd (not_telling (subst IsTelling (sym is_done) tt));
       taken_up = λ telling. absurd (not_telling telling);
       read = λ stopped. tt;
+      looked = λ stopped twice. absurd (not_telling (subst IsTelling (sym stopped) tt));
+      told_in_epochs = tt;
+      epochs = λ telling. tt;
     }
 
     -- by these moments
@@ -438,6 +441,9 @@ module _ {D : Type 0} (disks : DiskWords D) (settings : Settings) (opening : Lis
       drained = λ at_rest is_done. absurd (not_telling (subst IsTelling (sym is_done) tt));
       taken_up = λ telling. absurd (not_telling telling);
       read = λ stopped. tt;
+      looked = λ stopped twice. absurd (not_telling (subst IsTelling (sym stopped) tt));
+      told_in_epochs = tt;
+      epochs = λ telling. tt;
     }
 
     -- by no moment

@@ -35,7 +35,7 @@ use Rattle.run_steps.specs.Served.{AreServed, HasBegin, WasSkippedBy, folder_tra
 use Rattle.run_steps.specs.Shown.{WasOpenedSince}
 use Rattle.run_steps.specs.SoFar.{SoFar, files_in}
 use Rattle.run_steps.specs.Stands.{Stands}
-use Rattle.run_steps.proofs.FollowedOrSkipped.{each_then_so}
+use Rattle.run_steps.proofs.FollowedOrSkipped.{came_so, each_then_so, none_followed}
 use Rattle.run_steps.proofs.HiddenAmong.{each_is_hidden_of}
 use Rattle.told_scans.proofs.Members.{some_is}
 use Rattle.run_steps.proofs.Named.{later_has_other}
@@ -122,6 +122,16 @@ module _ {T W L D : Type 0} (words : Words T W L D) (start : Began D) (state : R
       (λ hidden there keyed. absurd (not_hidden slot one at hidden there keyed))) (any.0, any.2, any.3) any.4 in
       (here.0, any.1, here.1, here.2, any.4)
 
+  -- the keeper was told how each file begins
+  its_begin : (file : Filed) → Contains run_files file → HasBegin notes (slot_in file)
+  its_begin file there = record {
+    begin = file.opened.begin;
+    slot_is = refl;
+    noted =
+        opened_is_in_notes (files_in so_far) (acknowledged_in workers) so_far.begun so_far.collected notes stands.notes.noted.mixed (each_has_ground (files_in so_far) workers so_far.collected fits)
+        start.opening start.listed so_far.opened so_far.hidden stands.notes.begun file.opened (was_opened words start state so_far stands released folder has shown wires file there);
+  }
+
   begun_where_in_account : (slot : ℕ) (one : Listed) → slice_get start.listed slot ≡ Some one → IsInAccount file_accounts one → HasBegin notes slot
   begun_where_in_account slot one at in_account =
       let of = of_map (account_of placed) run_files in_account.1 (in_account.0, in_account.2, in_account.3) in
@@ -130,13 +140,7 @@ module _ {T W L D : Type 0} (words : Words T W L D) (start : Began D) (state : R
       let same_slot : slot_in of.item ≡ slot =
       same_place_by_key start.listed (slot_in of.item) slot listed.one one of.item.opened.begin.key (keys_apart (flat_map keyed_by folder.asked) start.listed start.doubled has.parts) listed.listed_there at
       listed.keyed keyed in
-      record {
-        begin = of.item.opened.begin;
-        slot_is = same_slot;
-        noted =
-            opened_is_in_notes (files_in so_far) (acknowledged_in workers) so_far.begun so_far.collected notes stands.notes.noted.mixed (each_has_ground (files_in so_far) workers so_far.collected fits)
-            start.opening start.listed so_far.opened so_far.hidden stands.notes.begun of.item.opened (was_opened words start state so_far stands released folder has shown wires of.item of.among);
-      }
+      subst (HasBegin notes) same_slot (its_begin of.item of.among)
 
   pub followed_or_skipped : AreFollowedOrSkipped run account scanned start.listed passed
   followed_or_skipped =
@@ -147,3 +151,12 @@ module _ {T W L D : Type 0} (words : Words T W L D) (start : Began D) (state : R
         reason = skipped_still told_trace run.trace [] refl (sym (append-nil folder.ended.events)) (omega arith) refl start.settings.inputs one opening why was.reason;
       })
       0 scanned start.listed passed (omega arith) (λ k one at. let same : k ≡ 0 + k = omega arith in subst (λ (n : ℕ). slice_get start.listed n ≡ Some one) same at) served.each
+
+  -- where as many paths were told as there are files, none is followed
+  pub no_files : length passed ≡ length start.listed → (file : Filed) → Contains run_files file → ⊥
+  no_files as_many file there =
+      let listed = as_listed words start state so_far stands released folder has shown wires file there in
+      ⊎_elim (λ never. never)
+      (λ was. was.skips.not_begun (subst (HasBegin notes) (let same : slot_in file ≡ 0 + slot_in file = omega arith in same) (its_begin file there)))
+      (came_so (λ slot one. ⊥) (WasSkippedBy start.settings.inputs notes told_trace) 0 scanned start.listed passed
+      (none_followed (λ slot one. HasBegin notes slot) (WasSkippedBy start.settings.inputs notes told_trace) 0 scanned start.listed passed served.each as_many) (slot_in file) listed.one listed.listed_there)

@@ -226,6 +226,7 @@ module _ {T W L D : Type 0} (words : Words T W L D) (start : Began D) (moments :
           among = so.among;
           is_told = told_by_other (watch_of start so_far.scans) (watch_of start scanned_too.scans) so.file so_far.moments one.turned one.told refl
               (named_on so_far.scans scan so.file) (may so.file) so.is_told;
+          in_epochs = so.in_epochs;
         }) stands.files.left
       where
         may : (opened : Opened) → MayFindEnd (watch_of start so_far.scans) opened → MayFindEnd (watch_of start scanned_too.scans) opened
@@ -244,6 +245,7 @@ module _ {T W L D : Type 0} (words : Words T W L D) (start : Began D) (moments :
         finished = stands.files.finished;
         over = stands.files.over;
         read = λ yet some. let read = stands.files.read yet some in record { in_lanes = read.in_lanes; in_left = read_later read.in_left some };
+        answered = stands.files.answered;
         tell = stands.files.tell;
         left_tell = stands.files.left_tell;
         scans = scans_then start so_far.moments so_far.scans scan follows ends is_known stands.files.scans;

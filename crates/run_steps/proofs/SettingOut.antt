@@ -1,5 +1,5 @@
 -- A crew as it is made may make rounds, and what stands of a run stands as it sets out and once its files are begun.
-use Rattle.std.proofs.Common.{◌≡◌, ℕ, Bool, ◌≤◌, ◌+◌, All, List, [], ◌∷◌, ◌++◌, length, map, take, drop, Option, None, IfSome, IsSome, Result, Ok, Err, IfOk, IfErr, refl, sym, ap, subst, ◌∙◌, arith}
+use Rattle.std.proofs.Common.{◌≡◌, ◌⊎◌, inl, inr, ⊎_elim, ℕ, Bool, ◌≤◌, ◌+◌, All, List, [], ◌∷◌, ◌++◌, length, map, take, drop, Option, None, IfSome, IsSome, Result, Ok, Err, IfOk, IfErr, refl, sym, ap, subst, ◌∙◌, arith}
 use Rattle.std.specs.List.{AllByRecursion}
 use Rattle.std.proofs.Math.Seq.{take-append_seam}
 use Rattle.std.proofs.lemmas.List.{length-map, length-append, take-append-drop}
@@ -38,11 +38,12 @@ use Rattle.run_steps.specs.Beginning.{Beginning}
 use Rattle.run_steps.specs.BeginsAll.{BeginsAll, BeginsSome, came_of}
 use Rattle.run_steps.specs.BegunCrew.{IsBegunCrew}
 use Rattle.run_steps.specs.HiddenRows.{HidesBegun, TellsHidden}
+use Rattle.run_steps.specs.Looking.{LooksSince}
 use Rattle.run_steps.specs.Met.{IsTelling}
 use Rattle.run_steps.specs.Outset.{Earlier, IsFirstKeeper, Outset, SetsOut, began_with}
 use Rattle.run_steps.specs.Ends.{Ending}
 use Rattle.run_steps.specs.Questions.{Questions}
-use Rattle.run_steps.specs.Releasing.{with_events}
+use Rattle.run_steps.specs.Releasing.{harvesters_of, with_events}
 use Rattle.run_steps.specs.RunEnds.{HasEnded}
 use Rattle.run_steps.specs.RunOf.{FolderTold, starts_of, told_scan}
 use Rattle.run_steps.specs.RunState.{Reading}
@@ -53,8 +54,10 @@ use Rattle.run_steps.specs.Worked.{AreAllBegun, HasPassed, phase_begun}
 use Rattle.run_steps.specs.declared.begin_error.BeginError.{BeginError}
 use Rattle.run_steps.specs.declared.beginning.BegunFiles.{BegunFiles}
 use Rattle.run_steps.specs.declared.met.Met.{Met}
+use Rattle.run_steps.specs.declared.met.Met.TheVariants.{Stopped}
 use Rattle.run_steps.proofs.AllBegun.{all_are_seen, stands_begun}
 use Rattle.run_steps.proofs.BeginningOne.{at_phase}
+use Rattle.run_steps.proofs.BegunLooks.{all_skipped}
 use Rattle.run_steps.proofs.BegunReady.{rest_begun, rests_on}
 use Rattle.run_steps.proofs.HiddenBegun.{hides_tell}
 use Rattle.run_steps.proofs.First.{IsMade, given, so_far, stands_first}
@@ -202,10 +205,15 @@ module _ {T W L D : Type 0} (words : Words T W L D) (reads : (disk : D) → IfSo
             by_result (Err what) (Ok files) all never are none_failed = absurd never
             by_result (Err what) (Err other) all same are none = absurd none
 
-        pub accounted : (then_asked : Questions) → OneChoice → Covers → (passed : List Passing) → HasPassed result passed → (IsTelling met → AreAllBegun result) → Collects hid ending.keeper → hid.held ≡ None →
+        pub accounted : (asked then_asked : Questions) → OneChoice → Covers → (passed : List Passing) → HasPassed result passed → (IsTelling met → AreAllBegun result) → Collects hid ending.keeper → hid.held ≡ None →
             (events : List Event) → ending.shown ≡ with_events events new.folder.told → Pairs OutcomesGoOn (map words.wires.outcomes wires) (map words.wires.outcomes after) →
+            (met ≡ Stopped → asked.bell + 2 ≤ then_asked.bell → (harvesters_of (lanings new.crew.lanes.items) ≡ []) ⊎ LooksSince start.shown ending.shown) →
             AccountedOver words.disks settings old.keeper.store.rows listed now.0 (length folder.scanned.events)
-            (ended_objects words start ending met left after has_ended folder has clock_tells wires_tell (map words.wires.outcomes wires) starts earlier.questions then_asked) met passed ending.keeper.shipped ending.keeper.dropped
-        accounted then_asked one covers passed has_passed told_where_begun collects none_held events then go_on =
-            ended_is_accounted_for words start ending met left after has_ended folder has clock_tells wires_tell (map words.wires.outcomes wires) starts earlier.questions then_asked one covers sets.gave passed
+            (ended_objects words start ending met left after has_ended folder has clock_tells wires_tell (map words.wires.outcomes wires) starts asked then_asked) met passed ending.keeper.shipped ending.keeper.dropped
+        accounted asked then_asked one covers passed has_passed told_where_begun collects none_held events then go_on looks =
+            ended_is_accounted_for words start ending met left after has_ended folder has clock_tells wires_tell (map words.wires.outcomes wires) starts asked then_asked one covers sets.gave passed
             (λ telling. served passed has_passed (told_where_begun telling) collects none_held events then) go_on
+            (λ stopped twice. ⊎_elim
+            (λ none. inl (all_skipped words.tails settings old.keeper.store.rows now settings.inputs listed begun_so result old new hid passed begins hides has_passed (told_where_begun (subst IsTelling (sym stopped) tt))
+            (recursion_from_All IsBegunLane (lanings old.crew.lanes.items) begun.lanes) none))
+            (λ since. inr since) (looks stopped twice))

@@ -16,7 +16,7 @@ use Rattle.run_steps.specs.LastSteps.{StoresAll, written_by}
 use Rattle.run_steps.specs.Met.{IsTelling}
 use Rattle.run_steps.specs.MetBy.{IsEndedBy, IsEndedRound, phase_after, phase_met, phase_reading}
 use Rattle.run_steps.specs.MetIn.{NoneFailed}
-use Rattle.run_steps.specs.Onward.{Onward}
+use Rattle.run_steps.specs.Onward.{Onward, rules_of}
 use Rattle.run_steps.specs.RunState.{Leaving, Reading, within}
 use Rattle.run_steps.specs.Settling.{IsMetByStoring}
 use Rattle.run_steps.specs.declared.context.Context.{Context}
@@ -50,12 +50,12 @@ module _ {T W L D F K B : Type 0} (words : StepWords T W L D F K B) (context : C
   shown = (words.seen system.folder.now).told
 
   module _ (met : Option Met) (stores : StoresAll words.all context met (crewing old before) (crewing new after)) where
-    leaves : Onward words.all context.once (within shown moments old before Reading) (within shown moments new after Leaving)
-    leaves = onward_then words.all context.once (within shown moments old before Reading) (within shown moments new after Reading) (within shown moments new after Leaving)
+    leaves : Onward words.all (rules_of context) (within shown moments old before Reading) (within shown moments new after Leaving)
+    leaves = onward_then words.all (rules_of context) (within shown moments old before Reading) (within shown moments new after Reading) (within shown moments new after Leaving)
         (stores.hands_on.onward shown moments Reading) (leaving_onward words.all shown moments new after Reading)
 
     stored_onward : (faulty : Bool) (ended : Option Met) → IfSome ended (IsMetByStoring words.all.disks (written_by (crewing old before) (crewing new after))) →
-        Onward words.all context.once (within shown moments old before (phase_reading faulty)) (within shown moments new after (phase_after faulty ended))
+        Onward words.all (rules_of context) (within shown moments old before (phase_reading faulty)) (within shown moments new after (phase_after faulty ended))
     stored_onward false None by = stores.hands_on.onward shown moments Reading
     stored_onward true ended by = stores.hands_on.onward shown moments Leaving
     stored_onward false (Some NoMemory) by = leaves

@@ -1,9 +1,10 @@
 -- Tails that are closed keep what stands of a run: their files are left, with what the tails told.
-use Rattle.std.proofs.Common.{◌≡◌, ◌≢◌, ◌⊎◌, inl, inr, ⊎_elim, ℕ, Bool, zero, suc, ◌+◌, ◌≤◌, ◌<◌, ◌^◌, ◌-◌, false, drop, List, [], ◌∷◌, ◌++◌, Contains, length, map, append_assoc, Option, Some, None, IsSome, IfSome, refl, sym, ap, subst, ◌∙◌, arith}
+use Rattle.std.proofs.Common.{◌≡◌, ◌≢◌, ◌⊎◌, inl, inr, ⊎_elim, ℕ, zero, suc, ◌+◌, ◌≤◌, ◌<◌, ◌^◌, ◌-◌, false, drop, List, [], ◌∷◌, ◌++◌, Contains, length, map, append_assoc, Option, Some, None, IsSome, IfSome, refl, sym, ap, subst, ◌∙◌, arith}
 use Rattle.std.proofs.lemmas.List.{map-append}
 use Rattle.std.proofs.lemmas.List.Elements.{Contains-append_left}
 use Rattle.std.specs.Prelude.{slice_get}
 use Rattle.std.specs.List.{AllByRecursion, flat_map}
+use Rattle.accounts.specs.FollowedFile.{MayReopenAt}
 use Rattle.accounts.specs.Once.{AreOnce}
 use Rattle.accounts.specs.Opened.{IsTailOf, Opened}
 use Rattle.accounts.specs.ToldFile.{IsReadThrough}
@@ -27,29 +28,31 @@ use Rattle.outside.specs.declared.history.Sight.{Sight}
 use Rattle.pass_sums.specs.Weight.{AsOften, weigh}
 use Rattle.pass_sums.proofs.Weights.{weigh-append}
 use Rattle.prospect.proofs.Lists.{all_append}
+use Rattle.restart_join.specs.declared.start.TheConstants.{MAX_EPOCH}
 use Rattle.rounds.specs.Books.{ArePlaced}
-use Rattle.rounds.specs.Crewed.{lanings}
 use Rattle.rounds.specs.Pairs.{SomeOf}
 use Rattle.rounds.specs.Settled.{spans_told}
 use Rattle.rounds.specs.Words.{Words}
 use Rattle.rounds.specs.declared.carrier.Carrier.{Carrier}
 use Rattle.ship_core.proofs.Members.{first_there, later_there, none_there, there_cases}
+use Rattle.slot_parts.specs.Tellings.{tellings_in}
 use Rattle.wire_base.specs.declared.note.Begin.{Begin}
 use Rattle.wire_base.specs.declared.note.Note.{Note}
 use Rattle.wire_base.specs.declared.numbers.Slot.{Slot}
 use Rattle.run_steps.specs.Began.{Began}
 use Rattle.run_steps.specs.Begun.{AreSlotsFrom}
 use Rattle.run_steps.specs.ClosesTail.{ClosesTail, ClosesTails, LetsGoAt, Readers}
-use Rattle.run_steps.specs.LastEpoch.{HaveOneOver, IsLastOver}
+use Rattle.run_steps.specs.LastEpoch.{AreToldInEpochs, HasAnswered, HaveOneOver, IsAnswered, IsLastOver}
+use Rattle.run_steps.specs.Looking.{HasLooked, SomeHasLooked}
 use Rattle.run_steps.specs.Releasing.{closing_of, with_events}
 use Rattle.run_steps.specs.ReadBehind.{ReadsBehind, ReadsWhereNoFault}
-use Rattle.run_steps.specs.RunState.{Finished, Halted, Leaving, OutOfEpochs, Phase, Reading, within}
+use Rattle.run_steps.specs.RunState.{Finished, Halted, Leaving, OutOfEpochs, Phase, Reading}
 use Rattle.told_scans.specs.OnlyAsked.{IsNoListing, WasClosedWith, WasOnlyAsked}
 use Rattle.told_scans.proofs.ToldScans.{nothing_appended}
 use Rattle.run_steps.specs.LaterScans.{told_in}
 use Rattle.run_steps.specs.Shown.{HasDone, HasShown, IsStillOpen, WasOpenedSince, openings_of}
 use Rattle.run_steps.specs.SoFar.{FilesSoFar, Left, SoFar, books_of, files_in, files_of, files_within, notes_of}
-use Rattle.run_steps.specs.Stands.{AreEachOnce, Books, BooksNow, Files, FilesNow, HaveGiven, IsLeftRead, IsLeftSo, ReadsYet, watch_of}
+use Rattle.run_steps.specs.Stands.{AreAnswered, AreEachOnce, Books, BooksNow, Files, FilesNow, HaveGiven, IsLeftRead, IsLeftSo, MayTell, ReadsYet, watch_of}
 use Rattle.run_steps.proofs.AreRead.{read_now, read_still}
 use Rattle.run_steps.proofs.Admitting.{booked_by, often_mapped, placed_by, spans_often}
 use Rattle.run_steps.proofs.Causing.{some_parted}
@@ -57,9 +60,10 @@ use Rattle.run_steps.proofs.Closing.{closed_now, closed_still, closes_its, close
 use Rattle.accounts.proofs.Joining.{same_slot, tells_slots}
 use Rattle.run_steps.proofs.First.{got_within}
 use Rattle.run_steps.proofs.Grounds.{all_backed}
+use Rattle.run_steps.proofs.InEpochs.{told_in_epochs}
 use Rattle.run_steps.proofs.LastOver.{some_behind, some_first}
 use Rattle.run_steps.proofs.LessOne.{all_in, each_in, less_in, often_in, one_in, some_in}
-use Rattle.run_steps.proofs.LettingGo.{StandsFor, each_kept, notes_kept, one_was, parcels_kept, passes_kept, spans_kept, stands_for}
+use Rattle.run_steps.proofs.LettingGo.{StandsFor, each_kept, notes_kept, one_was, parcels_kept, passes_kept, some_kept, spans_kept, stands_for}
 
 -- ---- slots, each once
 
@@ -134,11 +138,16 @@ module _ {T W L D : Type 0} (words : Words T W L D) (start : Began D) (moments :
     pub files : Files words.tails start (files_at now) (files_of so_far)
     pub books : Books words.links words.wires start.heard (books_at now) (books_of so_far)
 
+  -- a tail that is open, or was closed, was asked for its length
+  abbrev pub SomeLooked : SoFar → Readers T → Type 0
+  SomeLooked so_far now = SomeOf (λ (l : Left). HasLooked l.told) so_far.left ⊎ SomeHasLooked words.tails now.lanes
+
   -- and what was noted is the same
-  pub record ReadsOn (so_far : SoFar) (now : Readers T) : Type 0 where
+  pub record ReadsOn (so_far : SoFar) (old now : Readers T) : Type 0 where
     pub later : SoFar
     pub reads : Reads later now
     pub same_notes : notes_of later ≡ notes_of so_far
+    pub looked : SomeLooked so_far old → SomeLooked later now
 
   module _ (not_reading : phase ≢ Reading) where
     module _ (so_far : SoFar) (one : Harvester T) (old new : Readers T) (closes : ClosesTail words.tails one old new) (reads : Reads so_far old) where
@@ -192,8 +201,14 @@ module _ {T W L D : Type 0} (words : Words T W L D) (start : Began D) (moments :
             (often_mapped (λ (t : Turned). t.slot) (files_in after) (files_in so_far) (often_back (files_in so_far) (files_in after) same_files)) reads.files.each_once.are;
       }
 
+      in_epoch : file.history.present.epoch ≤ MAX_EPOCH
+      in_epoch = closes.in_epoch file.history its.is.has_told
+
+      in_epochs : AreToldInEpochs (tellings_in file.history)
+      in_epochs = told_in_epochs its.is.opened.begin.epoch.0 its.is.opened.begin.base file.history.past file.history.present its.is.is_told.history.epochs in_epoch
+
       left : AllByRecursion (IsLeftSo watch so_far.opened so_far.moments) (so_far.left ++ left_one ∷ [])
-      left = each_last (IsLeftSo watch so_far.opened so_far.moments) so_far.left left_one reads.files.left (record { file = its.is.opened; among = its.is.of_files; is_told = its.is.is_told })
+      left = each_last (IsLeftSo watch so_far.opened so_far.moments) so_far.left left_one reads.files.left (record { file = its.is.opened; among = its.is.of_files; is_told = its.is.is_told; in_epochs = in_epochs })
 
       abbrev ReadThrough : Turned → Type 0
       ReadThrough turned = IsReadThrough turned.history
@@ -218,6 +233,13 @@ module _ {T W L D : Type 0} (words : Words T W L D) (start : Began D) (moments :
       over Leaving is = tt
       over Halted is = tt
       over (OutOfEpochs slot) is = some_left (IsLastOver slot) is
+
+      looked_still : SomeLooked so_far old → SomeLooked after new
+      looked_still some =
+          let Asked : Left → Type 0 = λ l. HasLooked l.told in
+          ⊎_elim (λ here. inl (some_first Asked so_far.left (left_one ∷ []) here))
+          (λ in_lanes. ⊎_elim (λ is. inl (some_behind Asked so_far.left (left_one ∷ []) (inl is))) (λ others. inr others)
+          (some_kept one old.lanes new.lanes go (λ (h : Harvester T). HasLooked (words.tails.told h.tail)) in_lanes)) some
 
       -- ---- the folder
 
@@ -390,6 +412,18 @@ module _ {T W L D : Type 0} (words : Words T W L D) (start : Began D) (moments :
               subst (λ (b : Begin). ReadsBehind false b.base tail.looks) its.is.has_told.held.holds.follows.begin
               (subst (λ (o : Option TailHistory). IfSome o (λ (t : TailHistory). ReadsBehind false (begin_of one).base t.looks)) is (was none))
 
+      -- each fall of its length was answered, if it was so as it was turned
+      answered : MayTell phase → IsSome start.shown → AreAnswered new.lanes (so_far.left ++ left_one ∷ [])
+      answered may some =
+          let were = reads.files.answered may some in
+          record {
+            in_lanes = each_kept one old.lanes new.lanes go HasAnswered were.in_lanes;
+            in_left = each_last (λ (l : Left). IsAnswered l.turned.history) so_far.left left_one were.in_left (record {
+              answered = subst MayReopenAt its.is.has_told.held.holds.follows.stage (one_was one old.lanes new.lanes go HasAnswered were.in_lanes);
+              epoch = in_epoch;
+            });
+          }
+
       -- ---- the books
 
       spans_are : spans_told new.lanes < 2 ^ 64 - 1 → spans_in (files_in after) ≡ spans_told new.lanes
@@ -425,6 +459,7 @@ module _ {T W L D : Type 0} (words : Words T W L D) (start : Began D) (moments :
             in_lanes = each_kept one old.lanes new.lanes go (ReadsWhereNoFault words.tails.told words.tails.faults) (reads.files.read yet some).in_lanes;
             in_left = left_read yet some;
           };
+          answered = answered;
           tell = λ some. each_kept one old.lanes new.lanes go (λ (h : Harvester T). IsSome (words.tails.told h.tail)) (reads.files.tell some);
           left_tell = λ some. each_last (λ (l : Left). IsSome l.told) so_far.left left_one (reads.files.left_tell some)
               (one_was one old.lanes new.lanes go (λ (h : Harvester T). IsSome (words.tails.told h.tail)) (reads.files.tell some));
@@ -444,9 +479,10 @@ module _ {T W L D : Type 0} (words : Words T W L D) (start : Began D) (moments :
       }
 
     -- one behind the other
-    pub reads_on : (closed : List (Harvester T)) (so_far : SoFar) (old new : Readers T) → ClosesTails words.tails closed old new → Reads so_far old → ReadsOn so_far new
-    reads_on [] so_far old new same reads = record { later = so_far; reads = subst (Reads so_far) (sym same) reads; same_notes = refl }
+    pub reads_on : (closed : List (Harvester T)) (so_far : SoFar) (old new : Readers T) → ClosesTails words.tails closed old new → Reads so_far old → ReadsOn so_far old new
+    reads_on [] so_far old new same reads =
+        record { later = so_far; reads = subst (Reads so_far) (sym same) reads; same_notes = refl; looked = λ some. subst (SomeLooked so_far) (sym same) some }
     reads_on (one ∷ more) so_far old new closes reads =
         let first = reads_without so_far one old closes.0 closes.1 reads in
         let rest = reads_on more (after so_far one old closes.0 closes.1 reads) closes.0 new closes.2 first in
-        record { later = rest.later; reads = rest.reads; same_notes = rest.same_notes }
+        record { later = rest.later; reads = rest.reads; same_notes = rest.same_notes; looked = λ some. rest.looked (looked_still so_far one old closes.0 closes.1 reads some) }

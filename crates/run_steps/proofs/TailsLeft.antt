@@ -1,5 +1,5 @@
 -- A run that reads, or has read, may leave: what stands of it stands in the phase behind that, and as all its tails are closed.
-use Rattle.std.proofs.Common.{◌≡◌, ◌≢◌, ℕ, ◌-◌, Bool, List, Option, IsSome, refl, sym, subst}
+use Rattle.std.proofs.Common.{◌≡◌, ◌≢◌, ℕ, List, Option, IsSome, refl, sym, subst}
 use Rattle.std.specs.Prelude.{Vec}
 use Rattle.std.specs.declared.alloc.Global.{Global}
 use Rattle.std.specs.List.{AllByRecursion}
@@ -17,11 +17,11 @@ use Rattle.run_steps.specs.Began.{Began}
 use Rattle.run_steps.specs.ClosesTail.{ClosesTails, Readers}
 use Rattle.run_steps.specs.FolderSeen.{FolderSeen}
 use Rattle.run_steps.specs.LastEpoch.{HaveOneOver}
-use Rattle.run_steps.specs.Onward.{Onward}
+use Rattle.run_steps.specs.Onward.{Onward, RunRules}
 use Rattle.run_steps.specs.RunState.{Finished, Halted, Leaving, OutOfEpochs, Phase, Reading, RunState, phase_left, within}
 use Rattle.run_steps.specs.SoFar.{FilesSoFar, SoFar, books_of, files_of, files_within}
-use Rattle.run_steps.specs.Stands.{Books, Files, FilesNow, Further, Notes, ReadsYet, Stands}
-use Rattle.run_steps.proofs.TailClosed.{Reads, books_at, files_at, reads_on}
+use Rattle.run_steps.specs.Stands.{Books, Files, FilesNow, Further, MayTell, Notes, ReadsYet, Stands}
+use Rattle.run_steps.proofs.TailClosed.{books_at, files_at, reads_on}
 
 -- ---- a run that reads may leave
 
@@ -33,7 +33,7 @@ left_not_reading Finished is = let no : Finished ≡ Reading = is in cc
 left_not_reading (OutOfEpochs slot) is = let no : OutOfEpochs slot ≡ Reading = is in cc
 
 module _ {T W L D : Type 0} (words : Words T W L D) where
-  files_left : (start : Began D) (now : FilesNow T) (so_far : FilesSoFar) → Files words.tails start now so_far → Files words.tails start (record now { phase = phase_left now.phase }) so_far
+  pub files_left : (start : Began D) (now : FilesNow T) (so_far : FilesSoFar) → Files words.tails start now so_far → Files words.tails start (record now { phase = phase_left now.phase }) so_far
   files_left start now so_far files = record {
     opened = files.opened;
     keyed = files.keyed;
@@ -44,6 +44,7 @@ module _ {T W L D : Type 0} (words : Words T W L D) where
     finished = λ is some. finished now.phase refl is some;
     over = over now.phase files.over;
     read = λ is some. files.read (yet now.phase is) some;
+    answered = λ is some. files.answered (may_tell now.phase is) some;
     tell = files.tell;
     left_tell = files.left_tell;
     shown = files.shown;
@@ -72,13 +73,20 @@ module _ {T W L D : Type 0} (words : Words T W L D) where
       yet Leaving is = absurd is
       yet (OutOfEpochs slot) is = absurd is
 
+      may_tell : (phase : Phase) → MayTell (phase_left phase) → MayTell phase
+      may_tell Reading is = tt
+      may_tell Halted is = tt
+      may_tell Finished is = tt
+      may_tell Leaving is = absurd is
+      may_tell (OutOfEpochs slot) is = absurd is
+
   -- whatever the areas hold
   abbrev pub GoesOnStanding : RunState T W L D → RunState T W L D → Type 0
   GoesOnStanding before after = (start : Began D) (so_far : SoFar) → Stands words start before so_far → Further words start after
 
-  pub onward_then : (once : Bool) (first mid last : RunState T W L D) → Onward words once first mid → GoesOnStanding mid last → Onward words once first last
+  pub onward_then : (rules : RunRules) (first mid last : RunState T W L D) → Onward words rules first mid → GoesOnStanding mid last → Onward words rules first last
   unfolding Onward
-  onward_then once first mid last one then start so_far same stands began = let further = one start so_far same stands began in then start further.so_far further.stands
+  onward_then rules first mid last one then start so_far same stands began = let further = one start so_far same stands began in then start further.so_far further.stands
 
   -- whatever it was
   pub leaving_onward : (shown : Option FolderHistory) (moments : Option (List ℕ)) (crew : Crew T W L) (storing : Storing D) (phase : Phase) →
@@ -96,6 +104,7 @@ module _ {T W L D : Type 0} (words : Words T W L D) where
         finished = λ is some. absurd (let no : Leaving ≡ Finished = is in cc);
         over = tt;
         read = λ yet some. absurd yet;
+        answered = λ may some. absurd may;
         tell = stands.files.tell;
         left_tell = stands.files.left_tell;
         shown = stands.files.shown;

@@ -2,6 +2,7 @@
 use Rattle.std.proofs.Common.{◌≡◌, ◌≢◌, inr, ℕ, zero, suc, ◌||◌, List, [], ◌∷◌, ◌++◌, Option, Some, None, IsSome, refl, sym, ap, subst, ◌∙◌}
 use Rattle.std.specs.Prelude.{slice_get, slice_set}
 use Rattle.std.specs.List.{AllByRecursion}
+use Rattle.harvester.specs.HasTold.{IsChanged}
 use Rattle.harvester.specs.History.{Changed, History, Over}
 use Rattle.harvester.specs.Standing.{stage_of}
 use Rattle.harvester.specs.TurnLooks.{AreOfTurn, LooksOn}
@@ -25,7 +26,7 @@ use Rattle.rounds.specs.Words.{TailWords}
 module _ {T : Type 0} (numbers : T → Option (ℕ × ℕ)) (told : T → Option TailHistory) (faults : T → ℕ) (Q : Step → Type 0) (P : Harvester T → Type 0) where
   -- where such a turn leads, it is so still
   abbrev pub EachTurnKeeps : Type 0
-  EachTurnKeeps = (step : Step) (before after : Harvester T) → Q step → HasTurned numbers told faults step.now step.last before step.turn after → P before → P after
+  EachTurnKeeps = (step : Step) (before after : Harvester T) → Q step → ¬ (IsChanged before) → HasTurned numbers told faults step.now step.last before step.turn after → P before → P after
 
   each_but_one : (index : ℕ) (olds : List (Harvester T)) (after : Harvester T) → P after → AllByRecursion P olds → AllByRecursion P (slice_set olds index after)
   each_but_one index [] after here all = tt
@@ -42,7 +43,7 @@ module _ {T : Type 0} (numbers : T → Option (ℕ × ℕ)) (told : T → Option
   run_keeps keep [] olds news each run all = subst (λ (l : List (Harvester T)). AllByRecursion P l) (sym run) all
   run_keeps keep (step ∷ steps) olds news each run all =
       let made = run.1 in
-      let after = keep step made.before made.after each.0 made.turned (one_of_each step.index olds made.before made.was all) in
+      let after = keep step made.before made.after each.0 made.goes_on made.turned (one_of_each step.index olds made.before made.was all) in
       let mid = subst (λ (l : List (Harvester T)). AllByRecursion P l) (sym made.is) (each_but_one step.index olds made.after after all) in
       run_keeps keep steps run.0 news each.1 run.2 mid
 
@@ -81,7 +82,7 @@ Tells told harvester = IsSome (told harvester.tail)
 
 module _ {T : Type 0} (numbers : T → Option (ℕ × ℕ)) (told : T → Option TailHistory) (faults : T → ℕ) where
   pub tell_on : EachTurnKeeps numbers told faults Any (Tells told)
-  tell_on step before after any turned tells = by_case (told before.tail) tells turned.looks
+  tell_on step before after any goes_on turned tells = by_case (told before.tail) tells turned.looks
     where
       Are : File → List Look → Type 0
       Are = AreOfTurn before.reader.stage before.reader step.turn
@@ -98,7 +99,7 @@ module _ {T : Type 0} (numbers : T → Option (ℕ × ℕ)) (told : T → Option
     pub not_over : harvester.reader.stage ≢ stage.Over
 
   pub not_over_on : EachTurnKeeps numbers told faults NotOut IsNotOver
-  not_over_on step before after not_out turned was = record { known = (after_did step.now.0 step.turn g.did h, g.has_told); not_over = by_turn step.turn refl }
+  not_over_on step before after not_out goes_on turned was = record { known = (after_did step.now.0 step.turn g.did h, g.has_told); not_over = by_turn step.turn refl }
     where
       history : History
       history = was.known.0

@@ -1,5 +1,5 @@
 -- What a run does behind the beginning of its files, step by step.
-use Rattle.std.proofs.Common.{◌≡◌, ◌⊎◌, inl, inr, ⊎_elim, ℕ, Bool, zero, suc, ◌≤◌, ◌<◌, true, false, All, List, [], ◌∷◌, length, map, Option, Some, IfErr, IfOk, Result, Ok, Err, Vec, refl, sym, ap, subst, ◌∙◌, arith}
+use Rattle.std.proofs.Common.{◌≡◌, ◌⊎◌, inl, inr, ⊎_elim, ℕ, zero, suc, ◌≤◌, ◌<◌, false, All, List, [], ◌∷◌, length, map, Option, Some, IfErr, IfOk, Result, Ok, Err, refl, sym, ap, subst, ◌∙◌, arith}
 use Rattle.std.proofs.lemmas.List.Elements.{recursion_from_All}
 use Rattle.std.specs.Prelude.{slice_get}
 use Rattle.std.specs.List.{AllByRecursion}
@@ -27,7 +27,7 @@ use Rattle.run_steps.specs.CarriersEnd.{EndsCarriers}
 use Rattle.run_steps.specs.Ends.{IsAllSettled}
 use Rattle.run_steps.specs.Met.{AreLeft, IsTelling}
 use Rattle.run_steps.specs.MetBy.{HasFaults, HasMetFault, IsEndedBy, IsMetBy, IsOverOf, Since, SomeHarvester, phase_met}
-use Rattle.run_steps.specs.Onward.{Onward}
+use Rattle.run_steps.specs.Onward.{BeganBy, Onward, RunRules}
 use Rattle.run_steps.specs.Releasing.{HasNoHarvesters}
 use Rattle.run_steps.specs.RunEnds.{HasEnded}
 use Rattle.run_steps.specs.RunState.{Finished, Halted, Phase, phase_left, within, OutOfEpochs}
@@ -90,7 +90,7 @@ not_epochs begin.FolderFault slot is = let no : FolderFault ≡ Epochs slot = is
 not_epochs begin.NoMemory slot is = let no : NoMemory ≡ Epochs slot = is in cc
 not_epochs (begin.NoNative other) slot is = let no : NoNative other ≡ Epochs slot = is in cc
 
-not_stopped_so : (error : BeginError) → met_of error ≡ Stopped → ⊥
+pub not_stopped_so : (error : BeginError) → met_of error ≡ Stopped → ⊥
 not_stopped_so begin.FolderFault is = let no : FolderFault ≡ Stopped = is in cc
 not_stopped_so begin.NoMemory is = let no : NoMemory ≡ Stopped = is in cc
 not_stopped_so (begin.NoNative slot) is = let no : NoNative slot ≡ Stopped = is in cc
@@ -133,14 +133,14 @@ out_by (Err error) met slot first is = absurd (not_epochs error slot (sym first 
 
 -- ---- the end
 
-module _ {T W L D : Type 0} (words : Words T W L D) (start : Began D) (begun : Result BegunFiles BeginError) (once : Bool)
+module _ {T W L D : Type 0} (words : Words T W L D) (start : Began D) (begun : Result BegunFiles BeginError) (rules : RunRules)
     (shown later : Option FolderHistory) (moments then : Option (List ℕ)) (crew one two three : Crew T W L) (storing first second : Storing D) (met now : Met) (old new : List W) where
   -- what each step gave
   pub record Steps : Type 0 where
-    pub followed : Onward words once (within shown moments crew storing (phase_begun begun)) (within later then two first (phase_left (phase_worked begun met)))
+    pub followed : Onward words rules (within shown moments crew storing (phase_begun begun)) (within later then two first (phase_left (phase_worked begun met)))
     pub at_rest : AreLeft met → IsAtRest words.disks storing.keeper.now storing.a.now storing.b.now → IsAtRest words.disks first.keeper.now first.a.now first.b.now
     pub as_many_spans : spans_told (lanings two.lanes.items) ≡ spans_told (lanings one.lanes.items)
-    pub settled : (at : Option FolderHistory) (given : Option (List ℕ)) (phase : Phase) → Onward words once (within at given two first phase) (within at given three second phase)
+    pub settled : (at : Option FolderHistory) (given : Option (List ℕ)) (phase : Phase) → Onward words rules (within at given two first phase) (within at given three second phase)
     pub still : (¬ AreLeft met) → (three ≡ two) × (second ≡ first)
     pub left_before : AreLeft now → AreLeft met
     pub stored : AreLeft now → AreSettledIn three second.keeper.now
@@ -155,7 +155,7 @@ module _ {T W L D : Type 0} (words : Words T W L D) (start : Began D) (begun : R
     pub out_of_epochs : (slot : Slot) → now ≡ Epochs slot → phase_left (phase_worked begun met) ≡ OutOfEpochs slot
     pub stopped : now ≡ Stopped → phase_left (phase_worked begun met) ≡ Halted
 
-  module _ (steps : Steps) (so_far : SoFar) (same : start.once ≡ once) (stands : Stands words start (within shown moments crew storing (phase_begun begun)) so_far)
+  module _ (steps : Steps) (so_far : SoFar) (same : BeganBy rules start) (stands : Stands words start (within shown moments crew storing (phase_begun begun)) so_far)
       (began : BeganAtRest words.disks start → IsAtRest words.disks storing.keeper.now storing.a.now storing.b.now) where
     abbrev phase : Phase
     phase = phase_left (phase_worked begun met)
@@ -231,7 +231,7 @@ has_slot {T} slot (lane ∷ lanes) some =
     ⊎_elim (λ here. inl (some_mapped (λ (b : Begin). b.slot ≡ slot) begin_of lane.harvesters
     (some_as (IsOverOf slot) (λ (h : Harvester T). (begin_of h).slot ≡ slot) lane.harvesters (λ h is. is.of_slot) here))) (λ later. inr (has_slot slot lanes later)) some
 
-none_in : {T : Type 0} (P : Harvester T → Type 0) (lanes : List (Laning T)) → AllByRecursion HasNoHarvesters lanes → SomeHarvester P lanes → ⊥
+pub none_in : {T : Type 0} (P : Harvester T → Type 0) (lanes : List (Laning T)) → AllByRecursion HasNoHarvesters lanes → SomeHarvester P lanes → ⊥
 none_in P [] none some = some
 none_in P (lane ∷ lanes) none some =
     ⊎_elim (λ here. subst (λ (hs : List (Harvester _)). SomeOf P hs) none.0 here) (λ later. none_in P lanes none.1 later) some

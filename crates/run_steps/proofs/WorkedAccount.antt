@@ -30,6 +30,7 @@ use Rattle.wire_base.specs.declared.row.Op.TheVariants.{Set}
 use Rattle.wire_base.specs.declared.row.Row.{Row}
 use Rattle.accounts.specs.AccountedFor.{followings_in}
 use Rattle.run_steps.specs.AccountedFor.{Absences, AccountedFor, AreImageRows, GiveImageRows, ImagesHoldKeptRows, LostInImage, LostKey, RowsBy, RunObjects, TogetherHoldKeptRows, WereAtRest, areas_of}
+use Rattle.run_steps.specs.LastEpoch.{HasItsEpochs, IsToldInEpochs, falls_in}
 use Rattle.run_steps.specs.declared.met.Met.TheVariants.{Done, Stopped}
 use Rattle.run_steps.specs.TakenUp.{HasTakenUp, IsTakenUp}
 use Rattle.told_scans.proofs.Members.{some_is}
@@ -76,6 +77,15 @@ taken_up = record { scan = worked.scan; first = refl; whole = worked.whole; each
         subst (λ (s : Shown). IsPassedOver worked.run rule worked.scan s 0 ⊎ IsTakenUp worked.run account worked.scan s 0) (worked.only_entry other shows)
         (inr (record { number = 0; one = worked.slot_account; of_account = (0, omega arith, refl); shows = worked.shows_to; tail = worked.tail; of_slot = (0, omega arith, refl) }))
     by_input other (suc number) rule shows is covered = absurd (let q : None ≡ Some rule = is in cc)
+
+-- ---- its epochs
+
+-- the first one, in which its length never fell
+pub told_in_epochs : AllByRecursion IsToldInEpochs account
+told_in_epochs = ((inr (omega arith), tt), tt)
+
+pub has_its_epochs : AllByRecursion (λ (one : SlotAccount). AllByRecursion (HasItsEpochs one) one.following.tails) account
+has_its_epochs = ((record { each = (omega arith, tt); falls = (let none : falls_in 0 worked.looks ≡ 0 = refl in omega (arith, none)) }, tt), tt)
 
 -- ---- the row that was stored
 
@@ -277,6 +287,9 @@ module _ (one : OneChoice) where
     drained = λ at_rest done first second rows a_is b_is gives. subst (IsDrainedBySlots worked.run account) (rows_at_end one first second rows a_is b_is gives) worked.drained_by_slots;
     taken_up = λ telling. taken_up;
     read = λ stopped. absurd (let no : Done ≡ Stopped = stopped in cc);
+    looked = λ stopped twice. absurd (let no : Done ≡ Stopped = stopped in cc);
+    told_in_epochs = told_in_epochs;
+    epochs = λ telling. has_its_epochs;
   }
 
 -- ---- what is supposed

@@ -1,19 +1,22 @@
 -- A file of 9 bytes was read from its row's offset of 5 on, up to its end, and then its length was 3: where the row's epoch is the last one,
 -- the file, which is known by its path, ran out of epochs, and in the epoch before it did not; nor did one that is known by its first bytes
 -- and was not asked for its key behind the fall. With a row of the last epoch a file of 3 bytes is not started, and with one of the epoch
--- before it is.
-use Rattle.std.proofs.Common.{◌≡◌, inl, inr, ℕ, zero, suc, ◌+◌, ◌≤◌, Bool, true, false, if◌then◌else◌, List, [], ◌∷◌, ◌++◌, length, drop, None, Some, codes, refl, sym, ap, subst, ◌∙◌, arith}
+-- before it is. A run that tells a report has no account by which the first file was told in an epoch above the last.
+use Rattle.std.proofs.Common.{◌≡◌, ◌⊎◌, inl, inr, ℕ, zero, suc, ◌+◌, ◌≤◌, Bool, true, false, if◌then◌else◌, List, [], ◌∷◌, ◌++◌, Contains, length, drop, take, None, Some, codes, refl, sym, ap, subst, ◌∙◌, arith}
 use Rattle.std.specs.List.{AllByRecursion}
+use Rattle.accounts.proofs.Orderly.{member_is}
 use Rattle.event_tree.specs.declared.input_rule.IdentityRule.{IdentityRule}
 use Rattle.event_tree.specs.declared.input_rule.IdentityRule.TheVariants.{Fingerprint}
 use Rattle.event_tree.specs.declared.input_rule.InputRule.{InputRule}
+use Rattle.event_tree.specs.declared.settings.Settings.{Settings}
 use Rattle.file_identity.proofs.CutAskings.{none_cut}
 use Rattle.file_identity.specs.AskedAgain.{KeepsKey, StillHasKey}
 use Rattle.file_identity.specs.Asking.{IsAsking}
 use Rattle.file_identity.specs.Key.{path_key}
-use Rattle.file_looks.specs.Segment.{cut_from, segments_of, with_fall, with_look}
+use Rattle.file_looks.specs.Segment.{Segment, cut_from, segments_of, with_fall, with_look}
 use Rattle.file_looks.specs.Step.{falls_below, read_by, reaches, step_at}
 use Rattle.kept_rows.proofs.Worked.{input}
+use Rattle.kept_rows.specs.Account.{AccountedEvent, EpochAccount, FollowedTail, Reading, SlotAccount}
 use Rattle.kept_rows.specs.Trace.{Closing, closing_in}
 use Rattle.outside.specs.Files.{File}
 use Rattle.outside.specs.Folders.{Closed, Event, FolderHistory, Opened}
@@ -22,7 +25,12 @@ use Rattle.outside.specs.declared.history.Question.TheVariants.{Length, ReadAt}
 use Rattle.outside.specs.declared.history.Sight.{Sight}
 use Rattle.prospect.specs.declared.listed.Listed.{Listed}
 use Rattle.restart_join.specs.declared.start.TheConstants.{MAX_EPOCH}
-use Rattle.run_steps.specs.LastEpoch.{RanOutOfEpochs, falls_in}
+use Rattle.rounds.specs.Words.{DiskWords}
+use Rattle.run_steps.specs.AccountedFor.{AccountedFor, RunObjects}
+use Rattle.run_steps.specs.BeginFor.{start_among}
+use Rattle.run_steps.specs.LastEpoch.{HasItsEpochs, IsToldInEpochs, RanOutOfEpochs, falls_in}
+use Rattle.run_steps.specs.Met.{IsTelling}
+use Rattle.run_steps.specs.declared.met.Met.{Met}
 use Rattle.told_scans.specs.OnlyAsked.{WasClosedWith}
 use Rattle.run_steps.specs.Starting.{HasRoomAt, IsFirstTooMany}
 use Rattle.wire_base.specs.declared.limits.Full.TheVariants.{Epochs}
@@ -156,6 +164,68 @@ not_started = record {
 
 started : HasRoomAt (row_of_epoch 4_294_967_294 ∷ []) (file_of_size 3 ∷ []) 0 (file_of_size 3)
 started = refl
+
+-- ---- by the account
+
+abbrev pub tail : FollowedTail
+tail = record { opening = 0; place = 5; looks = looks; beyond = [] }
+
+abbrev reading : Segment → Reading
+reading segment = record { opening = 0; segment = segment }
+
+-- from its row's place on, and anew where its length had fallen
+abbrev told_of : ℕ → ℕ → ℕ → Segment → List AccountedEvent → EpochAccount
+told_of epoch start life segment told = record { epoch = epoch; start = start; life = life; readings = reading segment ∷ []; licences = []; told = told }
+
+abbrev pub slot_telling : ℕ → List AccountedEvent → SlotAccount
+slot_telling epoch told = record {
+  following = record { slot = 0; input = 0; key = key; epoch = epoch; base = 5; known_from = 0; gone_after = None; tails = tail ∷ [] };
+  number = 0;
+  changed = 0;
+  epochs = told_of epoch 5 0 (record { place = 5; fall = None; looks = take 2 looks }) []
+      ∷ told_of (epoch + 1) 0 1 (record { place = 0; fall = Some (record { question = Length; sight = shorter }); looks = [] }) told
+      ∷ [];
+}
+
+-- its last epoch is 4,294,967,295
+pub has_its_epochs : (told : List AccountedEvent) → HasItsEpochs (slot_telling 4_294_967_294 told) tail
+has_its_epochs told = record {
+  each = (omega arith, (omega arith, tt));
+  falls = (let one : falls_in 5 looks ≡ 1 = refl in omega (arith, one));
+}
+
+-- it is 4,294,967,296
+has_no_such : (told : List AccountedEvent) → HasItsEpochs (slot_telling MAX_EPOCH told) tail → ⊥
+has_no_such told has = let above = has.each.1.0 in omega (arith, above)
+
+falls_above : MAX_EPOCH + falls_in tail.place tail.looks ≤ MAX_EPOCH → ⊥
+falls_above above = let one : falls_in 5 looks ≡ 1 = refl in omega (arith, one, above)
+
+-- so no run that tells a report has such an account
+pub refused_where_it_tells : {D : Type 0} (disks : DiskWords D) (settings : Settings) (objects : RunObjects D) (met : Met) (accounted : AccountedFor disks settings objects met) (told : List AccountedEvent) →
+    IsTelling met → Contains accounted.account (slot_telling MAX_EPOCH told) → ⊥
+refused_where_it_tells disks settings objects met accounted told telling there =
+    has_no_such told
+    (member_is (λ (one : SlotAccount). AllByRecursion (HasItsEpochs one) one.following.tails) accounted.account (slot_telling MAX_EPOCH told) (accounted.epochs telling) there).0
+
+-- and whatever a run met, no event of its account was told in such an epoch
+pub refused_with_events : {D : Type 0} (disks : DiskWords D) (settings : Settings) (objects : RunObjects D) (met : Met) (accounted : AccountedFor disks settings objects met) (event : AccountedEvent)
+    (told : List AccountedEvent) → Contains accounted.account (slot_telling MAX_EPOCH (event ∷ told)) → ⊥
+refused_with_events disks settings objects met accounted event told there =
+    none (member_is IsToldInEpochs accounted.account (slot_telling MAX_EPOCH (event ∷ told)) accounted.told_in_epochs there).1.0
+  where
+    none : (event ∷ told ≡ []) ⊎ (MAX_EPOCH + 1 ≤ MAX_EPOCH) → ⊥
+    none (inl nothing) = cc
+    none (inr above) = omega (arith, above)
+
+-- a file that ran out of epochs, by a tail of whose looks all are told of it, has not had its epochs
+pub ran_out_has_none : (inputs : List InputRule) (rows : List Row) (one : Listed) (first now_told : FolderHistory) (ran : RanOutOfEpochs inputs rows one first now_told) (slot : SlotAccount) (followed : FollowedTail) →
+    slot.following.epoch ≡ (start_among rows one).epoch → followed.place ≡ (start_among rows one).base → followed.looks ≡ ran.looks → HasItsEpochs slot followed → ⊥
+ran_out_has_none inputs rows one first now_told ran slot followed epoch place looks_are has =
+    let falls : falls_in followed.place followed.looks ≡ falls_in (start_among rows one).base ran.looks = (λ k. falls_in (place k) (looks_are k)) in
+    let above = ran.above_the_last in
+    let within = has.falls in
+    omega (arith, falls, above, within, epoch)
 
 -- ---- how often the length falls
 

@@ -3,8 +3,9 @@
 -- its areas give are kept. So are those that both areas gave together since it began, in one order of its writes, and those of each image of one
 -- area by itself, but for an area that it did not use then and that is as it was. A key that had a row has one or lost it rightly, the same one where it was not
 -- begun; and so has one that was begun, where the last steps were made. Each slot is as the run told it where its own file keeps its identity
--- and its own truncations are seen, and a run that is done drained its folder. It is said where the folder, the clock and each wire tell.
-use Rattle.std.specs.Prelude.{◌≡◌, ◌⊎◌, ℕ, ◌≤◌, true, Contains, List, [], ◌∷◌, ◌++◌, length, map, Option, Some, None}
+-- and its own truncations are seen, and a run that is done drained its folder. Its events are of epochs
+-- that there are, and a run that tells a report needed no other. It is said where the folder, the clock and each wire tell.
+use Rattle.std.specs.Prelude.{◌≡◌, ◌⊎◌, ℕ, ◌+◌, ◌≤◌, true, Contains, List, [], ◌∷◌, ◌++◌, length, map, Option, Some, None}
 use Rattle.std.specs.List.{AllByRecursion}
 use Rattle.accounts.specs.AccountedFor.{HasItsRow, followings_in}
 use Rattle.batch_worker.specs.Standing.{length_of}
@@ -30,7 +31,9 @@ use Rattle.rounds.specs.Words.{DiskWords}
 use Rattle.wire_base.specs.declared.limits.Which.{Which}
 use Rattle.wire_base.specs.declared.row.Row.{Row}
 use Rattle.run_steps.specs.Areas.{GiveTheRows}
+use Rattle.run_steps.specs.LastEpoch.{HasItsEpochs, IsToldInEpochs}
 use Rattle.told_scans.specs.FolderOn.{FolderGoesOn}
+use Rattle.run_steps.specs.FirstLook.{HasFirstLook}
 use Rattle.run_steps.specs.Met.{AreLeft, IsTelling}
 use Rattle.run_steps.specs.Questions.{Questions}
 use Rattle.run_steps.specs.ReadBehind.{HasReadBehind}
@@ -191,3 +194,8 @@ pub record AccountedFor {D : Type 0} (disks : DiskWords D) (settings : Settings)
   -- where it tells a report, it took up what its first scan showed; where it was stopped, each file was read behind each look at its length
   pub taken_up : IsTelling met → HasTakenUp run account
   pub read : met ≡ Stopped → AllByRecursion (λ one. AllByRecursion (HasReadBehind run.trace) one.following.tails) account
+  -- and where it asked its bell at least twice it looked at some file
+  pub looked : met ≡ Stopped → objects.before.questions.bell + 2 ≤ objects.after.questions.bell → HasFirstLook run account
+  -- each event was told in an epoch that there is; where it tells a report, no file that a tail followed needed one above the last
+  pub told_in_epochs : AllByRecursion IsToldInEpochs account
+  pub epochs : IsTelling met → AllByRecursion (λ one. AllByRecursion (HasItsEpochs one) one.following.tails) account

@@ -1,15 +1,16 @@
 -- The step that closes a tail (this project's profile): a lane lets one harvester go, whose tail the folder takes back. All other
 -- harvesters stay, and so do the passes, what lanes hold and what they count.
-use Rattle.std.specs.Prelude.{◌≡◌, ◌⊎◌, ℕ, ◌-◌, ◌≤◌, Bool, true, false, All, IsSome, List, [], ◌∷◌, ◌++◌, length, Option, Some, None}
+use Rattle.std.specs.Prelude.{◌≡◌, ◌⊎◌, ℕ, ◌-◌, ◌≤◌, ◌||◌, Bool, false, All, IsSome, is_some, List, [], ◌∷◌, ◌++◌, length, Option, Some, None}
 use Rattle.harvester.specs.declared.harvester.Harvester.{Harvester}
 use Rattle.lanes.specs.Laning.{IsOfAnother, Laning, Releases, ReleasesAt}
 use Rattle.outside.specs.Folders.{Event}
 use Rattle.outside.specs.declared.folder.Folder.{Ghosts as FolderGhosts}
-use Rattle.rounds.specs.Pairs.{Pairs, SomeOf}
+use Rattle.rounds.specs.Pairs.{Pairs}
 use Rattle.rounds.specs.Staying.{HaveSlot}
 use Rattle.rounds.specs.Words.{TailWords}
 use Rattle.wire_base.specs.declared.numbers.Slot.{Slot}
 use Rattle.run_steps.specs.FolderSeen.{Closes, FolderSeen, seen_in}
+use Rattle.run_steps.specs.LastEpoch.{IsInEpoch}
 use Rattle.run_steps.specs.MetBy.{HasMetFault}
 use Rattle.run_steps.specs.Releasing.{harvesters_of, with_events}
 
@@ -37,6 +38,7 @@ pub record LetsGoAt {T : Type 0} (one : Harvester T) (old new : List (Laning T))
 pub record ClosesTail {T : Type 0} (tails : TailWords T) (one : Harvester T) (old new : Readers T) : Type 0 where
   pub lets_go : LetsGoAt one old.lanes new.lanes
   pub closes : Closes tails one.tail old.folder new.folder
+  pub in_epoch : IsInEpoch tails one
 
 -- these, one behind the other
 abbrev pub ClosesTails : {T : Type 0} → TailWords T → List (Harvester T) → Readers T → Readers T → Type 0
@@ -57,6 +59,11 @@ pub record ClosesSome {T : Type 0} (tails : TailWords T) (old new : Readers T) :
 abbrev pub HasFailedFile : {T : Type 0} → Laning T → Type 0
 HasFailedFile lane = IsSome lane.tally.failed
 
+-- whether those of some lane did
+abbrev pub some_failed : {T : Type 0} → List (Laning T) → Bool
+some_failed [] = false
+some_failed (lane ∷ lanes) = is_some lane.tally.failed || some_failed lanes
+
 -- a harvester of this slot was let go, if there was one
 abbrev pub LetsSlotGo : {T : Type 0} → Option Slot → Laning T → Laning T → Type 0
 LetsSlotGo None old new = new ≡ old
@@ -70,7 +77,7 @@ LetsFailedGo old new = LetsSlotGo old.tally.failed old new
 pub record ClosesFailed {T : Type 0} (tails : TailWords T) (failed : Bool) (old new : Readers T) : Type 0 where
   pub closes : ClosesSome tails old new
   pub lets_go : Pairs LetsFailedGo old.lanes new.lanes
-  pub some : failed ≡ true → SomeOf HasFailedFile old.lanes
+  pub failed_is : failed ≡ some_failed old.lanes
   pub none : failed ≡ false → new ≡ old
 
 -- ---- what steps keep of them

@@ -25,7 +25,7 @@ use Rattle.run_steps.specs.ClosesTail.{Readers, ReadersGo}
 use Rattle.run_steps.specs.FolderSeen.{FolderSeen, seen_in}
 use Rattle.run_steps.specs.MetBy.{GoesOn}
 use Rattle.run_steps.specs.MetIn.{NoneFailed}
-use Rattle.run_steps.specs.Onward.{Onward}
+use Rattle.run_steps.specs.Onward.{Onward, rules_of}
 use Rattle.run_steps.specs.Readiness.{IsAbleIn, IsReadyIn}
 use Rattle.run_steps.specs.RunState.{Phase, RunState, within}
 use Rattle.run_steps.specs.declared.context.Context.{Context}
@@ -106,4 +106,4 @@ module _ {T W L D F K B : Type 0} (words : StepWords T W L D F K B) (context : C
   pub record Goes (met : Option Met) (before after : Stop T W L D F K B) : Type 0 where
     pub keeps : Keeps met before after
     -- what was known of the events told, that notes are backed, and of what the areas may hold, is known of them afterwards
-    pub onward : Onward words.all context.once (state_at words before) (state_at words after)
+    pub onward : Onward words.all (rules_of context) (state_at words before) (state_at words after)

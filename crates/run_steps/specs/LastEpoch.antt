@@ -1,13 +1,18 @@
 -- A file whose last epoch is over (Filebeat reference, filestream input; this project's profile): its length was below what was read, its
 -- key was the same, and no further epoch is left. What the folder told shows it: the epoch with which it began and the falls of its length
--- since then, at each of which it still had its key, make one above the last epoch.
-use Rattle.std.specs.Prelude.{◌≡◌, ℕ, ◌+◌, ◌-◌, ◌≤◌, List, length, slice_get, Some}
+-- since then, at each of which it still had its key, make one above the last epoch. The account of a run that tells a report has no such file.
+use Rattle.std.specs.Prelude.{◌≡◌, ◌⊎◌, ℕ, ◌+◌, ◌-◌, ◌≤◌, List, [], length, slice_get, Some}
 use Rattle.std.specs.List.{AllByRecursion}
+use Rattle.accounts.specs.FollowedFile.{MayReopenAt}
 use Rattle.accounts.specs.Turned.{Turned}
 use Rattle.event_tree.specs.declared.input_rule.InputRule.{InputRule}
 use Rattle.file_identity.specs.AskedAgain.{KeepsKey}
 use Rattle.file_looks.specs.Segment.{segments_of}
-use Rattle.harvester.specs.History.{Over}
+use Rattle.harvester.specs.HasTold.{HasTold}
+use Rattle.harvester.specs.History.{History, Over, Telling}
+use Rattle.harvester.specs.Standing.{stage_of}
+use Rattle.harvester.specs.declared.harvester.Harvester.{Harvester}
+use Rattle.kept_rows.specs.Account.{FollowedTail, SlotAccount}
 use Rattle.outside.specs.Files.{File}
 use Rattle.outside.specs.Folders.{FolderHistory, Opened}
 use Rattle.outside.specs.declared.history.Look.{Look}
@@ -15,6 +20,7 @@ use Rattle.outside.specs.declared.history.Sight.{Sight}
 use Rattle.prospect.specs.declared.listed.Listed.{Listed}
 use Rattle.restart_join.specs.declared.start.TheConstants.{MAX_EPOCH}
 use Rattle.rounds.specs.Pairs.{SomeOf}
+use Rattle.rounds.specs.Words.{TailWords}
 use Rattle.wire_base.specs.declared.numbers.Slot.{Slot}
 use Rattle.wire_base.specs.declared.row.Row.{Row}
 use Rattle.run_steps.specs.BeginFor.{start_among}
@@ -36,6 +42,23 @@ HaveOneOver Finished files = Unit {0}
 HaveOneOver Leaving files = Unit {0}
 HaveOneOver Halted files = Unit {0}
 HaveOneOver (OutOfEpochs slot) files = SomeOf (IsLastOver slot) files
+
+-- each fall of its length was answered, by the next epoch or by another key
+abbrev pub HasAnswered : {T : Type 0} → Harvester T → Type 0
+HasAnswered harvester = MayReopenAt (stage_of harvester.reader.stage)
+
+-- so it is of one whose tail was closed, in an epoch that there is
+pub record IsAnswered (history : History) : Type 0 where
+  pub answered : MayReopenAt history.stage
+  pub epoch : history.present.epoch ≤ MAX_EPOCH
+
+-- whatever it told, its present epoch is one that there is
+abbrev pub IsInEpoch : {T : Type 0} → TailWords T → Harvester T → Type 0
+IsInEpoch tails harvester = (history : History) → HasTold tails.numbers tails.told history harvester → history.present.epoch ≤ MAX_EPOCH
+
+-- each epoch of which an event was told is one that there is
+abbrev pub AreToldInEpochs : List Telling → Type 0
+AreToldInEpochs tellings = AllByRecursion (λ telling. (telling.told ≡ []) ⊎ (telling.epoch ≤ MAX_EPOCH)) tellings
 
 -- ---- by what the folder told
 
@@ -61,3 +84,15 @@ pub record RanOutOfEpochs (inputs : List InputRule) (rows : List Row) (one : Lis
   pub closed : WasClosedWith after opening looks
   pub kept_key : AllByRecursion (KeepsKey rule key one.path file) (segments_of (start_among rows one).base looks)
   pub above_the_last : (start_among rows one).epoch + falls_in (start_among rows one).base looks ≡ MAX_EPOCH + 1
+
+-- ---- by the account
+
+-- each epoch of which an event was told is one that there is
+abbrev pub IsToldInEpochs : SlotAccount → Type 0
+IsToldInEpochs one = AllByRecursion (λ epoch. (epoch.told ≡ []) ⊎ (epoch.epoch ≤ MAX_EPOCH)) one.epochs
+
+-- the file of the slot, which this tail followed, needed no epoch above the last: each of its epochs is one that there is, and so is the one
+-- with which it was begun with one more for each time that its length fell while it kept its key
+pub record HasItsEpochs (one : SlotAccount) (tail : FollowedTail) : Type 0 where
+  pub each : AllByRecursion (λ epoch. epoch.epoch ≤ MAX_EPOCH) one.epochs
+  pub falls : one.following.epoch + falls_in tail.place tail.looks ≤ MAX_EPOCH

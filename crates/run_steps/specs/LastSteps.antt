@@ -13,10 +13,11 @@ use Rattle.rounds.specs.Words.{Words}
 use Rattle.run_steps.specs.Areas.{IsAtRest}
 use Rattle.run_steps.specs.CarriersFail.{FailOn, LinksStay, sending}
 use Rattle.run_steps.specs.Ends.{IsAllSettled}
+use Rattle.run_steps.specs.Looking.{HoldNothing}
 use Rattle.run_steps.specs.Met.{AreLeft}
 use Rattle.run_steps.specs.MetBy.{GoesOn, HasFaults, SomeHarvester}
 use Rattle.run_steps.specs.MetIn.{NoneFailed}
-use Rattle.run_steps.specs.Onward.{Onward}
+use Rattle.run_steps.specs.Onward.{Onward, rules_of}
 use Rattle.run_steps.specs.Releasing.{HasNoHarvesters}
 use Rattle.run_steps.specs.RunState.{Phase, RunState, within}
 use Rattle.run_steps.specs.Settling.{IsMetByStoring, Written}
@@ -38,7 +39,7 @@ module _ {T W L D : Type 0} (words : Words T W L D) (context : Context) where
   -- some of them in a row, which met this if it ended them
   pub record HandsOn (met : Option Met) (before after : Crewing T W L D) : Type 0 where
     pub onward : (shown : Option FolderHistory) (moments : Option (List ℕ)) (phase : Phase) →
-        Onward words context.once (state_in shown moments phase before) (state_in shown moments phase after)
+        Onward words (rules_of context) (state_in shown moments phase before) (state_in shown moments phase after)
     pub at_rest : GoesOn met → RestsIn words before → RestsIn words after
     pub ready : GoesOn met → IsReadyIn words.tails context after
     pub able : IsAbleIn words.tails context after
@@ -46,6 +47,7 @@ module _ {T W L D : Type 0} (words : Words T W L D) (context : Context) where
     pub all_settled : IsAllSettled (lanings before.lanes.items) before.storing.keeper.now → IsAllSettled (lanings after.lanes.items) after.storing.keeper.now
     pub slots : begins_of (lanings after.lanes.items) ≡ begins_of (lanings before.lanes.items)
     pub faults_stay : SomeHarvester (HasFaults words.tails) (lanings before.lanes.items) → SomeHarvester (HasFaults words.tails) (lanings after.lanes.items)
+    pub hold_nothing : HoldNothing (lanings before.lanes.items) → HoldNothing (lanings after.lanes.items)
     pub links_stay : LinksStay before.carriers.items after.carriers.items
     -- each worker's failures in a row are those of its wire, if they were before it
     pub failing : (moments : Option (List ℕ)) → FailOn words.links words.wires context.settings.now.output.attempts

@@ -1,6 +1,6 @@
 -- The scans that a run makes after its first one (Filebeat reference, filestream input; this project's profile), and what they say of a file
 -- while a tail of it is open: that it was removed, or is known by another path.
-use Rattle.std.specs.Prelude.{◌≡◌, ℕ, suc, ◌<◌, Bool, true, List, [], ◌∷◌, ◌++◌, Contains, length, map, Option, IfSome, IsSome, None, Some}
+use Rattle.std.specs.Prelude.{◌≡◌, ℕ, suc, ◌<◌, Bool, false, true, List, [], ◌∷◌, ◌++◌, Contains, length, map, Option, IfSome, IsSome, None, Some}
 use Rattle.std.specs.List.{AllByRecursion, filter_map}
 use Rattle.accounts.specs.Opened.{Opened}
 use Rattle.accounts.specs.Watch.{Name}
@@ -9,7 +9,7 @@ use Rattle.kept_rows.specs.Scans.{StandInOrder}
 use Rattle.outside.specs.Folders.{FolderHistory}
 use Rattle.prospect.specs.Doubled.{HaveKey}
 use Rattle.prospect.specs.declared.listed.Listed.{Listed}
-use Rattle.told_scans.specs.ToldScan.{IsTold, IsToldWithoutFault, ToldScan}
+use Rattle.told_scans.specs.ToldScan.{IsTold, IsToldWithFault, IsToldWithoutFault, ToldScan}
 use Rattle.run_steps.specs.Began.{Began}
 
 -- what the folder told of it, if it tells
@@ -33,6 +33,7 @@ pub record IsKnownScan (scan : LaterScan) : Type 0 where
   pub files_are : told.files ≡ scan.files
   pub doubled_are : told.doubled ≡ scan.doubled
   pub whole : scan.whole ≡ true → IsToldWithoutFault told
+  pub partial : scan.whole ≡ false → IsToldWithFault told
 
 -- the next one: between what the folder told before it and what it tells after it
 pub record IsNextScan (settings : Settings) (now : FolderHistory) (scan : LaterScan) (after : FolderHistory) : Type 0 where

@@ -10,7 +10,7 @@ use Rattle.rounds.specs.declared.storing.Storing.{Storing}
 use Rattle.run_steps.specs.AccountedFor.{RunObjects}
 use Rattle.run_steps.specs.Ends.{Ending}
 use Rattle.run_steps.specs.Outset.{Earlier, Outset}
-use Rattle.run_steps.specs.Questions.{questions_of}
+use Rattle.run_steps.specs.Questions.{count_given, questions_of}
 use Rattle.run_steps.specs.RunOf.{FolderTold}
 use Rattle.run_steps.specs.RunState.{Phase}
 use Rattle.run_steps.specs.Worked.{Tolls}
@@ -46,14 +46,14 @@ ending_of folder clock storing around phase = record {
   phase = phase;
 }
 
--- what they tell before and after it
+-- what they tell before and after it; the bell was not asked before it set out
 abbrev pub objects_of : {F T W L D K B : Type 0} → FolderGhosts F T → ClockGhosts K → BellGhosts B → WireGhosts W L → FolderTold → Earlier D →
     Surroundings F W K B → Storing D → Surroundings F W K B → RunObjects D
 objects_of folder clock bell wire told earlier before storing after = record {
   before = record {
     folder = Some told.earlier;
     moments = earlier.moments;
-    questions = earlier.questions;
+    questions = record { clock = earlier.asked; bell = bell.questions before.bell.now; given = count_given earlier.moments };
     outcomes = map wire.outcomes before.wires.now.items;
     a = earlier.a;
     b = earlier.b;

@@ -15,6 +15,7 @@ pub mod CarriersGoOn
 pub mod ClockOn
 pub mod ClosesTail
 pub mod Ends
+pub mod FirstLook
 pub mod FolderSeen
 pub mod FollowedOrSkipped
 pub mod Goes
@@ -24,6 +25,7 @@ pub mod LastEpoch
 pub mod LastSteps
 pub mod LaterScans
 pub mod Lent
+pub mod Looking
 pub mod Met
 pub mod MetBy
 pub mod MetIn
@@ -36,11 +38,14 @@ pub mod Readiness
 pub mod Registry
 pub mod RegistryErrors
 pub mod Releasing
+pub mod RescanErrors
 pub mod RunEnds
 pub mod RunOf
 pub mod RunState
+pub mod ScanSteps
 pub mod Scanned
 pub mod ScannedSome
+pub mod ScansAgain
 pub mod Served
 pub mod Settling
 pub mod Shown

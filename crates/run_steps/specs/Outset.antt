@@ -16,7 +16,6 @@ use Rattle.ship_core.specs.Rows.{IsInOrder}
 use Rattle.run_steps.specs.Areas.{BeganAtRest, GaveRows, HaveHeldFronts, IsAtRest}
 use Rattle.run_steps.specs.Began.{Began}
 use Rattle.run_steps.specs.BeginsAll.{IsOfRuledInput}
-use Rattle.run_steps.specs.Questions.{Questions}
 
 pub record Outset (W D : Type 0) : Type 0 where
   pub settings : Settings
@@ -34,8 +33,8 @@ pub record Outset (W D : Type 0) : Type 0 where
 -- before the clock gave the run's first moment, and before its areas were opened
 pub record Earlier (D : Type 0) : Type 0 where
   pub moments : Option (List ℕ)
-  -- how often it and the bell were asked
-  pub questions : Questions
+  -- how often the clock was asked
+  pub asked : ℕ
   pub a : D
   pub b : D
 

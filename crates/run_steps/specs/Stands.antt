@@ -23,13 +23,14 @@ use Rattle.rounds.specs.Settled.{spans_told}
 use Rattle.rounds.specs.Words.{LinkWords, TailWords, WireWords, Words}
 use Rattle.rounds.specs.declared.carrier.Carrier.{Carrier}
 use Rattle.settle_box.specs.Senders.{notes}
+use Rattle.slot_parts.specs.Tellings.{tellings_in}
 use Rattle.wire_base.specs.declared.note.Note.{Note}
 use Rattle.wire_base.specs.declared.row.Row.{Row}
 use Rattle.run_steps.specs.Areas.{BeganAtRest, HaveHeldFronts}
 use Rattle.run_steps.specs.Began.{Began}
 use Rattle.run_steps.specs.Begun.{AreBeginNotes, AreSlotsFrom, IsKeyed, IsOpenedAsListed}
 use Rattle.run_steps.specs.HiddenRows.{AreHiddenSoFar}
-use Rattle.run_steps.specs.LastEpoch.{HaveOneOver}
+use Rattle.run_steps.specs.LastEpoch.{AreToldInEpochs, HasAnswered, HaveOneOver, IsAnswered}
 use Rattle.run_steps.specs.LaterScans.{AreLaterScans, LaterScan, WasMissed, WasNamed}
 use Rattle.run_steps.specs.ReadBehind.{ReadsBehind, ReadsWhereNoFault}
 use Rattle.run_steps.specs.RunState.{Finished, Halted, Leaving, OutOfEpochs, Phase, Reading, RunState}
@@ -56,6 +57,7 @@ pub record IsLeftSo (watch : Watch) (opened : List Opened) (moments : List ℕ) 
   pub file : Opened
   pub among : Contains opened file
   pub is_told : IsToldFile watch file moments one.turned one.told
+  pub in_epochs : AreToldInEpochs (tellings_in one.turned.history)
 
 -- each file was begun once, and is turned or left
 pub record AreEachOnce (opened : List Opened) (files : List Turned) : Type 0 where
@@ -84,6 +86,19 @@ IsLeftRead now one = IfSome one.told (λ tail. closing_in tail.opening (drop (su
 pub record AreRead {T : Type 0} (tails : TailWords T) (shown : Option FolderHistory) (lanes : List (Laning T)) (left : List Left) : Type 0 where
   pub in_lanes : AllByRecursion (λ lane. AllByRecursion (ReadsWhereNoFault tails.told tails.faults) lane.harvesters) lanes
   pub in_left : IfSome shown (λ now. AllByRecursion (IsLeftRead now) left)
+
+-- the run may tell a report: it reads on, was stopped as it did, or read each file to its end
+abbrev pub MayTell : Phase → Type 0
+MayTell Reading = Unit {0}
+MayTell Finished = Unit {0}
+MayTell Halted = Unit {0}
+MayTell Leaving = ⊥
+MayTell (OutOfEpochs slot) = ⊥
+
+-- each fall of a file's length was answered: of those that are turned, and of those whose tails were closed
+pub record AreAnswered {T : Type 0} (lanes : List (Laning T)) (left : List Left) : Type 0 where
+  pub in_lanes : AllByRecursion (λ lane. AllByRecursion HasAnswered lane.harvesters) lanes
+  pub in_left : AllByRecursion (λ one. IsAnswered one.turned.history) left
 
 -- ---- what was told of them
 
@@ -123,6 +138,7 @@ pub record Files {T D : Type 0} (tails : TailWords T) (start : Began D) (now : F
   pub finished : now.phase ≡ Finished → IsSome start.shown → AllByRecursion (λ turned. IsReadThrough turned.history) (files_within so_far)
   pub over : HaveOneOver now.phase (files_within so_far)
   pub read : ReadsYet now.phase → IsSome start.shown → AreRead tails now.shown now.lanes so_far.left
+  pub answered : MayTell now.phase → IsSome start.shown → AreAnswered now.lanes so_far.left
   -- where the folder tells, so do the tails
   pub tell : IsSome start.shown → AllByRecursion (TellIn tails) now.lanes
   pub left_tell : IsSome start.shown → AllByRecursion (λ (one : Left). IsSome one.told) so_far.left

@@ -1,10 +1,19 @@
 ghost use Rattle.std.specs.Prelude.{◌≤◌, ℕ, IfSome, List};
+ghost use Rattle.run_steps.specs.Goes.{step_words};
+ghost use Rattle.run_steps.specs.ScanSteps.{ScansAreSteps};
 
-use outside::Disk;
+use outside::{Bell, Clock, Disk, Folder, Link, Wire};
 
 /// A disk as it reads is one of its images, and is counted among those since an earlier moment. A law; it computes nothing.
 pub fn disk_images_are_counted<D: Disk>()
     ensures reads { (disk : D) → IfSome (D.contents disk) (D.images disk) }
     ensures counts { (disk : D) (since : ℕ) (image : List ℕ) → since ≤ D.moment disk →
         D.images disk image → D.images_since disk since image }
+{}
+
+/// A scan after the first one is a step of each run that scans its folder again, at the moment that its clock gave last: what stood
+/// before it stands after it, with one more scan. A law; it computes nothing.
+pub fn scans_again_are_steps<F: Folder, L: Link, W: Wire<Link = L>, D: Disk, K: Clock, B: Bell>()
+    ensures { ScansAreSteps
+        (step_words F.Folder F.Tail.Tail L.Link W.Wire D.Disk K.Clock B.Bell) }
 {}

@@ -6,6 +6,7 @@ ghost use Rattle.rounds.specs.Crewed.{lanings};
 ghost use Rattle.rounds.specs.WordsOf.{links_of, tails_of, wires_of};
 ghost use Rattle.run_steps.specs.CarriersEnd.{EndsCarriers, HasCarrierPasses, HasLanePasses, PutsWire};
 ghost use Rattle.run_steps.specs.ClosesTail.{ClosesFailed, ClosesOne, ClosesSome, LetsSlotGo, readers};
+ghost use Rattle.run_steps.specs.LastEpoch.{IsInEpoch};
 ghost use Rattle.run_steps.specs.Releasing.{HasNoHarvesters, closing_of, with_events};
 
 use harvester::Harvester;
@@ -92,7 +93,7 @@ pub fn close_slot<F: Folder>(folder: &mut F, lane: &mut Lane<F::Tail>, slot: Slo
     }
 }
 
-/// Lets a harvester go, and gives the folder its tail back. It takes no memory.
+/// Lets a harvester go, and gives the folder its tail back. It takes no memory. The harvester counts its epochs in 32 bits.
 pub(crate) fn release<F: Folder>(folder: &mut F, harvester: Harvester<F::Tail>)
     ensures told { F.told folder.new ≡ with_events
         (closing_of (F.Tail.told harvester.tail) (F.Tail.faults harvester.tail))
@@ -101,7 +102,9 @@ pub(crate) fn release<F: Folder>(folder: &mut F, harvester: Harvester<F::Tail>)
     ensures open_tails { F.open_tails folder.new ≡ F.open_tails folder.old - 1 }
     ensures counts_faults { added_counts (F.faults folder.old) (F.Tail.faults harvester.tail)
         ≤ F.faults folder.new }
+    ensures in_epoch { IsInEpoch (tails_of F.Tail.Tail) harvester }
 {
+    prove!(harvester.told().0.0 <= u32::MAX);
     folder.close(harvester.finish());
 }
 

@@ -2,7 +2,8 @@
 //! go, and what was settled is stored. Rows of removed files go by notes, which the keeper is told once all files are begun.
 //!
 //! Each step says what it changed. Rounds, the last steps and what lets go keep one relation: what was told of each file, where
-//! each event of it is, what the keeper noted, and what the areas may hold at any moment.
+//! each event of it is, what the keeper noted, and what the areas may hold at any moment. So does a scan after the first one,
+//! which no run makes yet.
 #![tactic(auto)]
 
 mod begin;
@@ -19,7 +20,9 @@ mod opening;
 mod reading;
 mod registry;
 mod registry_error;
+mod rescan_error;
 mod running;
+mod scanning;
 mod settle;
 mod starts;
 mod telling;
@@ -32,14 +35,16 @@ pub use context::{Context, Surroundings, System};
 pub use crew::{BOX_NOTES, Passes, crew_of};
 pub use follow::{PAUSE_MS, met_behind, met_in, pause_where_still};
 pub use hidden::{hide_begun, tell_hidden};
-pub use laws::disk_images_are_counted;
+pub use laws::{disk_images_are_counted, scans_again_are_steps};
 pub use leave::{close_all, close_failed, close_slot, close_tail, end_crew, end_lanes};
 pub use met::Met;
 pub use opening::Opening;
 pub use reading::{follow_all, make_round, read_on, store_and_follow};
 pub use registry::open_registry;
 pub use registry_error::RegistryError;
+pub use rescan_error::RescanError;
 pub use running::run_over;
+pub use scanning::{Rescan, scan_again};
 pub use settle::{settle_all, store_all};
 pub use starts::starts_of;
 pub use telling::tell_moments;

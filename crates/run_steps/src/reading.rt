@@ -4,8 +4,9 @@ ghost use Rattle.rounds.specs.Crewed.{lanings};
 ghost use Rattle.rounds.specs.Crewing.{crewing};
 ghost use Rattle.rounds.specs.Pairs.{SomeOf};
 ghost use Rattle.rounds.specs.WordsOf.{disks_of, tails_of};
-ghost use Rattle.run_steps.specs.ClosesTail.{HasFailedFile};
+ghost use Rattle.run_steps.specs.ClosesTail.{HasFailedFile, some_failed};
 ghost use Rattle.run_steps.specs.Goes.{Goes, step_words, stop_at};
+ghost use Rattle.run_steps.specs.Looking.{LooksByNow, LooksInRound, asked_at};
 ghost use Rattle.run_steps.specs.Met.{IsTelling};
 ghost use Rattle.run_steps.specs.MetBy.{HasFaults, HasMetFault, IsEndedBy, IsEndedRound, IsMetBy, SomeHarvester, WasStopped, phase_after, phase_met, phase_reading, since_of};
 ghost use Rattle.run_steps.specs.MetIn.{NoneFailed, read_by};
@@ -47,11 +48,13 @@ where
     F::Tail: Send,
     requires ready { IsReadyIn (tails_of F.Tail.Tail) context (crewing crew.old storing.old) }
     requires few { length crew.old.carriers.items ≤ 2 ^ 32 - 1 }
-    // Also in a run that has closed a file that met a fault.
+    // Also in a run that has closed a file that met a fault; it has met one, too, if a read failed
+    // in this round.
     ensures goes { (faulty : Bool) →
         Goes (step_words F.Folder F.Tail.Tail L.Link W.Wire D.Disk K.Clock B.Bell) context.entry
         result (stop_at (phase_reading faulty) crew.old storing.old system.old)
-        (stop_at (phase_after faulty result) crew.new storing.new system.new) }
+        (stop_at (phase_after (faulty || some_failed (lanings crew.new.lanes.items)) result)
+        crew.new storing.new system.new) }
     ensures met { IfSome result (IsMetBy (tails_of F.Tail.Tail) (disks_of D.Disk)
         context.entry.settings.now.output.attempts
         (since_of F.Folder storing.old system.old (crewing crew.new storing.new) system.new)) }
@@ -61,6 +64,9 @@ where
         SomeHarvester (HasFaults (tails_of F.Tail.Tail)) (lanings crew.new.lanes.items) }
     ensures none_failed { IfNone result
         (NoneFailed context.entry.settings.now.output.attempts crew.new.carriers.items) }
+    ensures looks { IfNone result (some_failed (lanings crew.new.lanes.items) ≡ false →
+        LooksInRound (tails_of F.Tail.Tail) (lanings crew.old.lanes.items)
+        (lanings crew.new.lanes.items)) }
     ensures asks_the_clock { K.questions system.new.clock.now
         ≡ next_count (K.questions system.old.clock.now) }
     ensures gives_one_moment { count_given (K.moments system.new.clock.now)
@@ -119,6 +125,9 @@ where
     ensures met { IfErr result (λ met. IsEndedBy (tails_of F.Tail.Tail) (disks_of D.Disk)
         context.entry.settings.now.output.attempts faulty
         (since_of F.Folder storing.old system.old (crewing crew.new storing.new) system.new) met) }
+    // Where no file met a fault, some file of lanes that held nothing was asked for its length.
+    ensures looks { IfOk result (λ now. now ≡ false → LooksInRound (tails_of F.Tail.Tail)
+        (lanings crew.old.lanes.items) (lanings crew.new.lanes.items)) }
     // A report is told only where no file met a fault before.
     ensures none_failed { IfErr result (λ met. IsTelling met → faulty ≡ false) }
     // What ends the run is no file's fault alone.
@@ -190,6 +199,10 @@ where
     ensures asks { AsksOn 1
         (questions_of K.Clock B.Bell system.old.clock.now system.old.bell.now)
         (questions_of K.Clock B.Bell system.new.clock.now system.new.bell.now) }
+    // A run that was stopped has a first look by the second question of its bell.
+    ensures looked { result ≡ Stopped → LooksByNow (tails_of F.Tail.Tail)
+        (asked_at B.Bell system.old.bell.now (lanings crew.old.lanes.items))
+        (asked_at B.Bell system.new.bell.now (lanings crew.new.lanes.items)) }
 {
     match store_all(rt, context, crew, storing) {
         Some(met) => met,
@@ -240,6 +253,10 @@ where
     ensures asks { AsksOn 1
         (questions_of K.Clock B.Bell system.old.clock.now system.old.bell.now)
         (questions_of K.Clock B.Bell system.new.clock.now system.new.bell.now) }
+    // A run that was stopped has a first look by the second question of its bell.
+    ensures looked { result ≡ Stopped → LooksByNow (tails_of F.Tail.Tail)
+        (asked_at B.Bell system.old.bell.now (lanings crew.old.lanes.items))
+        (asked_at B.Bell system.new.bell.now (lanings crew.new.lanes.items)) }
 {
     let mut met_fault = faulty;
     for _ in rt.forever() {

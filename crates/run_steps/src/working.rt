@@ -1,4 +1,4 @@
-ghost use Rattle.std.specs.Prelude.{◌≡◌, ◌⊎◌, ◌+◌, ◌-◌, ◌^◌, ◌<◌, ◌≤◌, ℕ, IfOk, List, Option, Result, Some, false, length, vec_capacity, vec_len};
+ghost use Rattle.std.specs.Prelude.{◌≡◌, ◌⊎◌, ◌+◌, ◌-◌, ◌^◌, ◌<◌, ◌≤◌, ℕ, IfOk, List, [], Option, Result, Some, false, length, vec_capacity, vec_len};
 ghost use Rattle.keeper.specs.Collecting.{Collects};
 ghost use Rattle.outside.specs.Counts.{Rose};
 ghost use Rattle.outside.specs.Folders.{Event};
@@ -13,9 +13,11 @@ ghost use Rattle.run_steps.specs.ClockOn.{MomentsGoOn};
 ghost use Rattle.run_steps.specs.Goes.{Goes, step_words, stop_at};
 ghost use Rattle.run_steps.specs.LastSteps.{LastSteps};
 ghost use Rattle.run_steps.specs.Lent.{ending_of, tolls_of};
+ghost use Rattle.run_steps.specs.Looking.{HoldNothing, LooksByNow, LooksSince, asked_at};
 ghost use Rattle.run_steps.specs.Met.{AreLeft, IsTelling};
 ghost use Rattle.run_steps.specs.MetBy.{since_of};
 ghost use Rattle.run_steps.specs.MetIn.{NoneFailed};
+ghost use Rattle.run_steps.specs.Onward.{BeganBy, rules_of};
 ghost use Rattle.run_steps.specs.Questions.{AsksOn, questions_of};
 ghost use Rattle.run_steps.specs.Readiness.{IsAbleIn, IsReadyIn};
 ghost use Rattle.run_steps.specs.Releasing.{harvesters_of, with_events};
@@ -77,13 +79,27 @@ where
         let all = words_of F.Tail.Tail L.Link W.Wire D.Disk in
         let shown = F.told around.old.folder.now in
         let moments = K.moments around.old.clock.now in
-        start.once ≡ context.entry.once →
+        BeganBy (rules_of context.entry) start →
         Stands all start (within shown moments crew storing.old (phase_begun begun)) so_far →
         (BeganAtRest all.disks start →
         IsAtRest all.disks storing.old.keeper.now storing.old.a.now storing.old.b.now) →
         (phase : Phase) × HasEnded all start
         (ending_of F.Folder K.Clock storing.new around.new phase) result.met
         around.old.wires.now.items around.new.wires.now.items }
+    // A run that was stopped after two questions of its bell has asked some file for its length,
+    // if it follows one.
+    ensures looked { (start : Began D) (so_far : SoFar) →
+        let all = words_of F.Tail.Tail L.Link W.Wire D.Disk in
+        let shown = F.told around.old.folder.now in
+        let moments = K.moments around.old.clock.now in
+        BeganBy (rules_of context.entry) start →
+        Stands all start (within shown moments crew storing.old (phase_begun begun)) so_far →
+        (BeganAtRest all.disks start →
+        IsAtRest all.disks storing.old.keeper.now storing.old.a.now storing.old.b.now) →
+        HoldNothing (lanings crew.lanes.items) → result.met ≡ Stopped →
+        B.questions around.old.bell.now + 2 ≤ B.questions around.new.bell.now →
+        (harvesters_of (lanings crew.lanes.items) ≡ [])
+        ⊎ LooksSince start.shown (F.told around.new.folder.now) }
     // The folder's list grows.
     ensures told { (events : List Event) ×
         (F.told around.new.folder.now ≡ with_events events (F.told around.old.folder.now)) }
@@ -173,6 +189,9 @@ where
     ensures asks { AsksOn 1
         (questions_of K.Clock B.Bell system.old.clock.now system.old.bell.now)
         (questions_of K.Clock B.Bell system.new.clock.now system.new.bell.now) }
+    ensures looked { result.met ≡ Stopped → LooksByNow (tails_of F.Tail.Tail)
+        (asked_at B.Bell system.old.bell.now (lanings crew.old.lanes.items))
+        (asked_at B.Bell system.new.bell.now (lanings crew.new.lanes.items)) }
 {
     match begun {
         Ok(files) => Worked {

@@ -1,4 +1,5 @@
 mod harvesters;
 mod one_lane;
+mod scans;
 mod threads;
 mod workers;

@@ -115,11 +115,11 @@ returns-clause-cause g c = λ from opened.
     (c.in_ok-worked.ensures.ends
     (earlier disks wires c.args.settings.now c.requires.in_range
     c.in_ok-parts.parts.desk.id c.in_ok-parts.parts.keeper c.args.store c.in_ok-parts.ensures.keeper c.in_ok-parts.ensures.store c.args.outside.now.wires.now.items from
-    c.args.outside.now.a.now c.args.outside.now.b.now opened c.in_ok-scanned.scanned.listed.items c.in_ok-scanned.scanned.doubled.items c.in_ok-scanned.scanned.now.0 (questions_of g.K.Clock g.B.Bell c.args.outside.now.clock.now c.args.outside.now.bell.now)
+    c.args.outside.now.a.now c.args.outside.now.b.now opened c.in_ok-scanned.scanned.listed.items c.in_ok-scanned.scanned.doubled.items c.in_ok-scanned.scanned.now.0 (g.K.Clock.questions c.args.outside.now.clock.now)
     (g.K.Clock.moments c.args.outside.now.clock.now) (g.K.Clock.moments c.scan.new.clock) c.in_ok-scanned.ensures.moment_given (g.F.Folder.told c.scan.new.folder) (rw inputs at c.in_ok-scanned.ensures.of_inputs))
     (set_out disks wires c.args.settings.now c.requires.in_range
     c.in_ok-parts.parts.desk.id c.in_ok-parts.parts.keeper c.args.store c.in_ok-parts.ensures.keeper c.in_ok-parts.ensures.store c.args.outside.now.wires.now.items from
-    c.args.outside.now.a.now c.args.outside.now.b.now opened c.in_ok-scanned.scanned.listed.items c.in_ok-scanned.scanned.doubled.items c.in_ok-scanned.scanned.now.0 (questions_of g.K.Clock g.B.Bell c.args.outside.now.clock.now c.args.outside.now.bell.now)
+    c.args.outside.now.a.now c.args.outside.now.b.now opened c.in_ok-scanned.scanned.listed.items c.in_ok-scanned.scanned.doubled.items c.in_ok-scanned.scanned.now.0 (g.K.Clock.questions c.args.outside.now.clock.now)
     (g.K.Clock.moments c.args.outside.now.clock.now) (g.K.Clock.moments c.scan.new.clock) c.in_ok-scanned.ensures.moment_given (g.F.Folder.told c.scan.new.folder) (rw inputs at c.in_ok-scanned.ensures.of_inputs))).1.ends.stands.files.shown)
     c.in_ok-worked.worked.met c.finish.result
     c.in_ok-worked.ensures.cause
@@ -137,15 +137,15 @@ returns-clause-accounted g c = λ from opened tells.
     let of = is_met_of c.args.settings.now.output.workers _ _ _ c.in_ok-worked.worked.met c.in_ok-worked.ensures.cause in
     let before = earlier disks wires c.args.settings.now c.requires.in_range
     c.in_ok-parts.parts.desk.id c.in_ok-parts.parts.keeper c.args.store c.in_ok-parts.ensures.keeper c.in_ok-parts.ensures.store c.args.outside.now.wires.now.items from
-    c.args.outside.now.a.now c.args.outside.now.b.now opened c.in_ok-scanned.scanned.listed.items c.in_ok-scanned.scanned.doubled.items c.in_ok-scanned.scanned.now.0 (questions_of g.K.Clock g.B.Bell c.args.outside.now.clock.now c.args.outside.now.bell.now)
+    c.args.outside.now.a.now c.args.outside.now.b.now opened c.in_ok-scanned.scanned.listed.items c.in_ok-scanned.scanned.doubled.items c.in_ok-scanned.scanned.now.0 (g.K.Clock.questions c.args.outside.now.clock.now)
     (g.K.Clock.moments c.args.outside.now.clock.now) (g.K.Clock.moments c.scan.new.clock) c.in_ok-scanned.ensures.moment_given (g.F.Folder.told c.scan.new.folder) (rw inputs at c.in_ok-scanned.ensures.of_inputs) in
     let sets = set_out disks wires c.args.settings.now c.requires.in_range
     c.in_ok-parts.parts.desk.id c.in_ok-parts.parts.keeper c.args.store c.in_ok-parts.ensures.keeper c.in_ok-parts.ensures.store c.args.outside.now.wires.now.items from
-    c.args.outside.now.a.now c.args.outside.now.b.now opened c.in_ok-scanned.scanned.listed.items c.in_ok-scanned.scanned.doubled.items c.in_ok-scanned.scanned.now.0 (questions_of g.K.Clock g.B.Bell c.args.outside.now.clock.now c.args.outside.now.bell.now)
+    c.args.outside.now.a.now c.args.outside.now.b.now opened c.in_ok-scanned.scanned.listed.items c.in_ok-scanned.scanned.doubled.items c.in_ok-scanned.scanned.now.0 (g.K.Clock.questions c.args.outside.now.clock.now)
     (g.K.Clock.moments c.args.outside.now.clock.now) (g.K.Clock.moments c.scan.new.clock) c.in_ok-scanned.ensures.moment_given (g.F.Folder.told c.scan.new.folder) (rw inputs at c.in_ok-scanned.ensures.of_inputs) in
     let start = began_with wires (outset disks wires c.args.settings.now c.requires.in_range
     c.in_ok-parts.parts.desk.id c.in_ok-parts.parts.keeper c.args.store c.in_ok-parts.ensures.keeper c.in_ok-parts.ensures.store c.args.outside.now.wires.now.items from
-    c.args.outside.now.a.now c.args.outside.now.b.now opened c.in_ok-scanned.scanned.listed.items c.in_ok-scanned.scanned.doubled.items c.in_ok-scanned.scanned.now.0 (questions_of g.K.Clock g.B.Bell c.args.outside.now.clock.now c.args.outside.now.bell.now)
+    c.args.outside.now.a.now c.args.outside.now.b.now opened c.in_ok-scanned.scanned.listed.items c.in_ok-scanned.scanned.doubled.items c.in_ok-scanned.scanned.now.0 (g.K.Clock.questions c.args.outside.now.clock.now)
     (g.K.Clock.moments c.args.outside.now.clock.now) (g.K.Clock.moments c.scan.new.clock) c.in_ok-scanned.ensures.moment_given (g.F.Folder.told c.scan.new.folder) (rw inputs at c.in_ok-scanned.ensures.of_inputs)) before in
     let ends = c.in_ok-worked.ensures.ends before sets in
     let keeper = c.in_ok-parts.ensures.keeper in
@@ -182,11 +182,11 @@ returns-clause-at_rest g c = λ from opened some rest followed.
     let ends = c.in_ok-worked.ensures.ends
     (earlier disks wires c.args.settings.now c.requires.in_range
     c.in_ok-parts.parts.desk.id c.in_ok-parts.parts.keeper c.args.store c.in_ok-parts.ensures.keeper c.in_ok-parts.ensures.store c.args.outside.now.wires.now.items from
-    c.args.outside.now.a.now c.args.outside.now.b.now opened c.in_ok-scanned.scanned.listed.items c.in_ok-scanned.scanned.doubled.items c.in_ok-scanned.scanned.now.0 (questions_of g.K.Clock g.B.Bell c.args.outside.now.clock.now c.args.outside.now.bell.now)
+    c.args.outside.now.a.now c.args.outside.now.b.now opened c.in_ok-scanned.scanned.listed.items c.in_ok-scanned.scanned.doubled.items c.in_ok-scanned.scanned.now.0 (g.K.Clock.questions c.args.outside.now.clock.now)
     (g.K.Clock.moments c.args.outside.now.clock.now) (g.K.Clock.moments c.scan.new.clock) c.in_ok-scanned.ensures.moment_given (g.F.Folder.told c.scan.new.folder) (rw inputs at c.in_ok-scanned.ensures.of_inputs))
     (set_out disks wires c.args.settings.now c.requires.in_range
     c.in_ok-parts.parts.desk.id c.in_ok-parts.parts.keeper c.args.store c.in_ok-parts.ensures.keeper c.in_ok-parts.ensures.store c.args.outside.now.wires.now.items from
-    c.args.outside.now.a.now c.args.outside.now.b.now opened c.in_ok-scanned.scanned.listed.items c.in_ok-scanned.scanned.doubled.items c.in_ok-scanned.scanned.now.0 (questions_of g.K.Clock g.B.Bell c.args.outside.now.clock.now c.args.outside.now.bell.now)
+    c.args.outside.now.a.now c.args.outside.now.b.now opened c.in_ok-scanned.scanned.listed.items c.in_ok-scanned.scanned.doubled.items c.in_ok-scanned.scanned.now.0 (g.K.Clock.questions c.args.outside.now.clock.now)
     (g.K.Clock.moments c.args.outside.now.clock.now) (g.K.Clock.moments c.scan.new.clock) c.in_ok-scanned.ensures.moment_given (g.F.Folder.told c.scan.new.folder) (rw inputs at c.in_ok-scanned.ensures.of_inputs)) in
     let left = left_by_ending c.in_ok-scanned.scanned.listed.items c.args.settings.now.output.attempts c.in_ok-worked.worked.met c.finish.result c.finish.ensures.stands c.finish.ensures.refused followed in
     let keeper_is : c.keeper-2-1.given.0 ≡ c.run_over.new.storing.keeper.now = c.keeper-2-1.given.1 (sym c.run_over.ensures.same_keeper) in
@@ -200,11 +200,11 @@ returns-clause-reported g c = λ from opened some rest.
     let ends = c.in_ok-worked.ensures.ends
     (earlier disks wires c.args.settings.now c.requires.in_range
     c.in_ok-parts.parts.desk.id c.in_ok-parts.parts.keeper c.args.store c.in_ok-parts.ensures.keeper c.in_ok-parts.ensures.store c.args.outside.now.wires.now.items from
-    c.args.outside.now.a.now c.args.outside.now.b.now opened c.in_ok-scanned.scanned.listed.items c.in_ok-scanned.scanned.doubled.items c.in_ok-scanned.scanned.now.0 (questions_of g.K.Clock g.B.Bell c.args.outside.now.clock.now c.args.outside.now.bell.now)
+    c.args.outside.now.a.now c.args.outside.now.b.now opened c.in_ok-scanned.scanned.listed.items c.in_ok-scanned.scanned.doubled.items c.in_ok-scanned.scanned.now.0 (g.K.Clock.questions c.args.outside.now.clock.now)
     (g.K.Clock.moments c.args.outside.now.clock.now) (g.K.Clock.moments c.scan.new.clock) c.in_ok-scanned.ensures.moment_given (g.F.Folder.told c.scan.new.folder) (rw inputs at c.in_ok-scanned.ensures.of_inputs))
     (set_out disks wires c.args.settings.now c.requires.in_range
     c.in_ok-parts.parts.desk.id c.in_ok-parts.parts.keeper c.args.store c.in_ok-parts.ensures.keeper c.in_ok-parts.ensures.store c.args.outside.now.wires.now.items from
-    c.args.outside.now.a.now c.args.outside.now.b.now opened c.in_ok-scanned.scanned.listed.items c.in_ok-scanned.scanned.doubled.items c.in_ok-scanned.scanned.now.0 (questions_of g.K.Clock g.B.Bell c.args.outside.now.clock.now c.args.outside.now.bell.now)
+    c.args.outside.now.a.now c.args.outside.now.b.now opened c.in_ok-scanned.scanned.listed.items c.in_ok-scanned.scanned.doubled.items c.in_ok-scanned.scanned.now.0 (g.K.Clock.questions c.args.outside.now.clock.now)
     (g.K.Clock.moments c.args.outside.now.clock.now) (g.K.Clock.moments c.scan.new.clock) c.in_ok-scanned.ensures.moment_given (g.F.Folder.told c.scan.new.folder) (rw inputs at c.in_ok-scanned.ensures.of_inputs)) in
     let keeper = c.keeper-2-1.given.0 in
     let keeper_is : keeper ≡ c.run_over.new.storing.keeper.now = c.keeper-2-1.given.1 (sym c.run_over.ensures.same_keeper) in

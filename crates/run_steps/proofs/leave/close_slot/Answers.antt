@@ -16,7 +16,7 @@ returns-in-Some-clause-closes g c =
       states_go_on = c.release-in-Some.ensures.states_go_on;
       open_tails = c.release-in-Some.ensures.open_tails;
       counts_faults = c.release-in-Some.ensures.counts_faults;
-    }))
+    }) c.release-in-Some.ensures.in_epoch)
 
 pub returns-in-Some-clause-lets_go : goal.returns-in-Some-clause-lets_go
 returns-in-Some-clause-lets_go g c = inl (c.in-Some.harvester, c.in-Some.ensures.released)

@@ -14,5 +14,5 @@ returns-clause-closes g c = (
         states_go_on = c.release.ensures.states_go_on;
         open_tails = c.release.ensures.open_tails;
         counts_faults = c.release.ensures.counts_faults;
-      }),
+      }) c.release.ensures.in_epoch,
 )

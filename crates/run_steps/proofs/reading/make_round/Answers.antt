@@ -1,10 +1,11 @@
-use Rattle.std.proofs.Common.{ℕ, ◌+◌, ◌≤◌, List, Option, refl, sym, subst, ◌∙◌, arith}
+use Rattle.std.proofs.Common.{ℕ, ◌+◌, ◌≤◌, ◌||◌, List, Option, refl, sym, subst, ◌∙◌, arith}
 use Rattle.lanes.specs.declared.run.When.{When}
 use Rattle.outside.specs.Times.{GivesMoment}
 use Rattle.rounds.specs.Crewed.{lanings}
 use Rattle.rounds.specs.Crewing.{crewing}
 use Rattle.rounds.specs.WordsOf.{words_of}
 use Rattle.run_steps.specs.ClockOn.{MomentsGoOn}
+use Rattle.run_steps.specs.ClosesTail.{some_failed}
 use Rattle.run_steps.specs.FolderSeen.{seen_in}
 use Rattle.run_steps.specs.MetBy.{phase_after, phase_reading}
 use Rattle.run_steps.specs.Questions.{count_given}
@@ -12,10 +13,11 @@ use Rattle.run_steps.proofs.CarriersGoOn.{carriers_by_round}
 use Rattle.run_steps.proofs.Clocks.{clock_by_moment}
 use Rattle.run_steps.proofs.FailingRounds.{fail_by_round, none_failed_in}
 use Rattle.run_steps.proofs.GoesOn.{none_failed_on}
-use Rattle.run_steps.proofs.MetBy.{all_done_after, each_met, faults_stay, never_fault, none_out_after, reads_after, reads_before, round_failed, some_out_after, stored_well}
+use Rattle.run_steps.proofs.MetBy.{all_done_after, each_met, faults_stay, never_fault, none_out_after, none_refused_after, reads_after, reads_before, round_failed, some_out_after, stored_well}
 use Rattle.run_steps.proofs.Onward.{round_onward}
 use Rattle.run_steps.proofs.Questions.{given_once}
 use Rattle.run_steps.proofs.ReadersGo.{readers_stay}
+use Rattle.run_steps.proofs.RoundLooks.{looks_met}
 use Rattle.run_steps.proofs.reading.make_round.Goals as goal
 
 pub met_in-met-requires : goal.met_in-met-requires
@@ -56,6 +58,7 @@ returns-clause-goes g c faulty =
     let keeps = c.round-round.ensures.keeps in
     let given : GivesMoment before c.now-now.result.0 after =
     subst (λ (o : Option (List ℕ)). GivesMoment before c.now-now.result.0 o) (sym c.pause_where_still.ensures.moments_kept) c.now-now.ensures.told in
+    let late = some_failed (lanings c.round-round.new.self.lanes.items) in
     let well = stored_well all queue desk when old new round c.requires.ready keeps once attempts met c.met_in-met.ensures in
     record {
       keeps = record {
@@ -84,17 +87,24 @@ returns-clause-goes g c faulty =
         same_bell = refl;
       };
       onward = round_onward all c.disk_images_are_counted.ensures.reads c.disk_images_are_counted.ensures.counts queue desk c.args.crew.now c.round-round.new.self
-          c.args.storing.now c.round-round.new.storing round (g.F.Folder.told c.args.system.now.folder.now) when before after (phase_reading faulty) (phase_after faulty met) given c.round-round.ensures.rounds keeps
-          (reads_before all queue desk when old new round c.requires.ready keeps once attempts faulty met)
-          (none_out_after all queue desk when old new round c.requires.ready keeps once attempts faulty met c.met_in-met.ensures)
-          (all_done_after all queue desk when old new round c.requires.ready keeps once attempts faulty met c.met_in-met.ensures)
-          (some_out_after all queue desk when old new round c.requires.ready keeps once attempts faulty met c.met_in-met.ensures)
-          (reads_after all queue desk when old new round c.requires.ready keeps once attempts faulty met c.met_in-met.ensures);
+          c.args.storing.now c.round-round.new.storing round (g.F.Folder.told c.args.system.now.folder.now) c.args.context.settings.now when before after (phase_reading faulty) (phase_after (faulty || late) met) given c.round-round.ensures.rounds keeps
+          (reads_before all queue desk when old new round c.requires.ready keeps once attempts faulty late met)
+          (none_out_after all queue desk when old new round c.requires.ready keeps once attempts (faulty || late) met c.met_in-met.ensures)
+          (all_done_after all queue desk when old new round c.requires.ready keeps once attempts (faulty || late) met c.met_in-met.ensures)
+          (some_out_after all queue desk when old new round c.requires.ready keeps once attempts (faulty || late) met c.met_in-met.ensures)
+          (reads_after all queue desk when old new round c.requires.ready keeps once attempts (faulty || late) met c.met_in-met.ensures)
+          (none_refused_after all queue desk when old new round c.requires.ready keeps once attempts faulty late met c.met_in-met.ensures);
     }
 
 pub returns-clause-none_failed : goal.returns-clause-none_failed
 returns-clause-none_failed g c =
     none_failed_in c.args.context.once c.args.context.settings.now.output.attempts c.round-round.new.self c.round-round.new.storing.keeper.now c.round-round.result c.met_in-met.result c.met_in-met.ensures
+
+pub returns-clause-looks : goal.returns-clause-looks
+returns-clause-looks g c =
+    looks_met (words_of g.F.Tail.Tail g.L.Link g.W.Wire g.D.Disk) c.args.context.outlets.queue.now c.args.context.outlets.desk.now (record { now = c.now-now.result; last = c.args.context.once })
+    (crewing c.args.crew.now c.args.storing.now) (crewing c.round-round.new.self c.round-round.new.storing) c.round-round.result c.requires.ready c.round-round.ensures.keeps c.round-round.ensures.rounds
+    c.args.context.once c.args.context.settings.now.output.attempts c.met_in-met.result c.met_in-met.ensures
 
 pub returns-clause-gives_one_moment : goal.returns-clause-gives_one_moment
 returns-clause-gives_one_moment g c =

@@ -5,11 +5,12 @@ use Rattle.rounds.specs.Crewing.{crewing}
 use Rattle.rounds.specs.WordsOf.{disks_of, tails_of}
 use Rattle.run_steps.specs.FolderSeen.{seen_in}
 use Rattle.run_steps.specs.Goes.{Goes, step_words, stop_at}
+use Rattle.run_steps.specs.Looking.{LooksInRound}
 use Rattle.run_steps.specs.Met.{IsTelling}
 use Rattle.run_steps.specs.MetBy.{HasMetFault, IsEndedBy, IsEndedRound, IsMetBy, phase_met, phase_reading}
 use Rattle.run_steps.specs.declared.met.Met.{Met}
 use Rattle.run_steps.proofs.Letting.{failed_in}
-use Rattle.run_steps.proofs.ReadOn.{ends_so, found_so, goes_on_so, if_some, met_so, read_untold, round_so}
+use Rattle.run_steps.proofs.ReadOn.{ends_so, found_so, goes_on_so, if_some, looks_so, met_so, read_untold, round_so}
 use Rattle.run_steps.proofs.reading.read_on.Goals as goal
 
 pub returns-clause-goes_on : goal.returns-clause-goes_on
@@ -98,3 +99,15 @@ pub returns-clause-none_failed : goal.returns-clause-none_failed
 returns-clause-none_failed g c =
     subst (λ (r : Result Bool Met). IfErr r (λ met. IsTelling met → c.args.faulty ≡ false)) (sym c.goes_on.ensures)
     (read_untold c.args.faulty c.close_failed-failed.result c.make_round-met.result)
+
+pub returns-clause-looks : goal.returns-clause-looks
+returns-clause-looks g c =
+    let one = c.make_round-met.new.crew in
+    let system = c.make_round-met.new.system in
+    let folder = record system.folder { now = c.close_failed-failed.new.folder } in
+    let lanes = with_items one.lanes c.close_failed-failed.new.lanes in
+    let closes = failed_in (tails_of g.F.Tail.Tail) c.close_failed-failed.result (seen_in g.F.Folder system.folder.now) (seen_in g.F.Folder c.close_failed-failed.new.folder) one.lanes
+    c.as_mut_slice.result.now c.close_failed-failed.new.lanes c.as_mut_slice.ensures.value c.close_failed-failed.ensures in
+    subst (λ (r : Result Bool Met). IfOk r (λ now. now ≡ false → LooksInRound (tails_of g.F.Tail.Tail) (lanings c.args.crew.now.lanes.items) (lanings lanes.items))) (sym c.goes_on.ensures)
+    (looks_so (step_words g.F.Folder g.F.Tail.Tail g.L.Link g.W.Wire g.D.Disk g.K.Clock g.B.Bell) c.args.context c.args.faulty c.close_failed-failed.result c.args.crew.now one c.args.storing.now c.make_round-met.new.storing c.args.system.now system folder lanes refl closes
+    c.make_round-met.result c.make_round-met.ensures.looks)

@@ -1,9 +1,11 @@
 use Rattle.std.proofs.Common.{arith, inl, inr, ⊎_elim}
+use Rattle.rounds.specs.Crewed.{lanings}
 use Rattle.rounds.specs.Crewing.{crewing}
-use Rattle.rounds.specs.WordsOf.{words_of}
+use Rattle.rounds.specs.WordsOf.{tails_of, words_of}
 use Rattle.run_steps.specs.Goes.{step_words}
 use Rattle.run_steps.specs.MetBy.{since_of}
 use Rattle.run_steps.specs.Questions.{questions_of}
+use Rattle.run_steps.proofs.FollowLooks.{looks_from}
 use Rattle.run_steps.proofs.GoesOn.{goes_by_two}
 use Rattle.run_steps.proofs.MetBy.{ended_since, round_since}
 use Rattle.run_steps.proofs.Questions.{asks_nothing}
@@ -55,3 +57,13 @@ pub returns-in-Some-clause-none_failed : goal.returns-in-Some-clause-none_failed
 returns-in-Some-clause-none_failed g c telling =
     absurd (none_told (step_words g.F.Folder g.F.Tail.Tail g.L.Link g.W.Wire g.D.Disk g.K.Clock g.B.Bell) c.args.context c.args.system.now c.args.crew.now c.store_all.new.crew
     c.args.storing.now c.store_all.new.storing c.in-Some.met c.in-Some.ensures.by telling)
+
+pub returns-in-Some-clause-looked : goal.returns-in-Some-clause-looked
+returns-in-Some-clause-looked g c is =
+    absurd (not_stopped (step_words g.F.Folder g.F.Tail.Tail g.L.Link g.W.Wire g.D.Disk g.K.Clock g.B.Bell) c.args.context c.args.system.now c.args.crew.now c.store_all.new.crew
+    c.args.storing.now c.store_all.new.storing c.in-Some.met c.in-Some.ensures.by is)
+
+pub returns-in-None-clause-looked : goal.returns-in-None-clause-looked
+returns-in-None-clause-looked g c stopped nothing twice =
+    looks_from (tails_of g.F.Tail.Tail) (lanings c.args.crew.now.lanes.items) (lanings c.store_all.new.crew.lanes.items) (lanings c.follow_all.new.crew.lanes.items) c.in-None.ensures.hands_on.slots
+    (c.follow_all.ensures.looked stopped (c.in-None.ensures.hands_on.hold_nothing nothing) twice)

@@ -14,9 +14,10 @@ use Rattle.run_steps.specs.CarriersGoOn.{WiresReturn}
 use Rattle.run_steps.specs.Outset.{began_with}
 use Rattle.run_steps.specs.RunEnds.{HasEnded}
 use Rattle.run_steps.specs.RunState.{Phase}
-use Rattle.run_steps.specs.Questions.{questions_of}
+use Rattle.run_steps.specs.Questions.{count_given, questions_of}
 use Rattle.rounds.specs.WordsOf.{links_of, tails_of, wires_of, words_of}
 use Rattle.run_steps.proofs.BeginningLists.{begun_rose}
+use Rattle.run_steps.proofs.BegunLooks.{begun_hold_nothing, nothing_begun}
 use Rattle.run_steps.proofs.BegunReady.{ready_begun, told_runs}
 use Rattle.run_steps.proofs.CarriersGoOn.{links_finished, open_links_seen, outcomes_go_on}
 use Rattle.run_steps.proofs.HiddenBegun.{begun_knows, errors_still, files_still, hides_tell, passed_or_none}
@@ -96,7 +97,7 @@ returns-clause-ends g c earlier sets =
       phase = phase;
     })
     c.work.result.met unused c.work.new.around.wires.now.items)
-    (sym left) (c.work.ensures.ends start stood.so_far refl stood.stands at_rest)
+    (sym left) (c.work.ensures.ends start stood.so_far (record { settings = refl; once = refl }) stood.stands at_rest)
 
 pub returns-clause-accounted : goal.returns-clause-accounted
 returns-clause-accounted g c earlier folder sets has clock_tells wires_tell =
@@ -126,7 +127,10 @@ returns-clause-accounted g c earlier folder sets has clock_tells wires_tell =
       a = c.args.storing.now.a.now;
       b = c.args.storing.now.b.now;
     }) earlier in
-    let is = c.work.ensures.ends start stood.so_far refl stood.stands at_rest in
+    let is = c.work.ensures.ends start stood.so_far (record { settings = refl; once = refl }) stood.stands at_rest in
+    let nothing = nothing_begun all.tails c.args.context.settings.now c.args.storing.now.keeper.now.store.rows c.args.scanned.now.now c.args.scanned.now.listed.items c.begin_all-begun.result old new
+    c.begin_all-begun.ensures.begun c.begin_all-begun.ensures.ended
+    (begun_hold_nothing (lanings c.in_ok-crew.crew.lanes.items) (recursion_from_All IsBegunLane (lanings c.in_ok-crew.crew.lanes.items) c.in_ok-crew.ensures.begun.lanes)) in
     accounted all c.disk_images_are_counted.ensures.reads c.disk_images_are_counted.ensures.counts queue desk c.args.context.settings.now c.args.context.once c.args.scanned.now.listed.items c.args.scanned.now.doubled.items c.args.scanned.now.now
     (g.K.Clock.moments c.args.around.now.clock.now) c.args.around.now.wires.now.items c.crew_of.new.wires.items c.args.storing.now.a.now c.args.storing.now.b.now old earlier
     c.in_ok-crew.ensures.begun c.requires.keeper sets c.begin_all-begun.result new c.begin_all-begun.ensures.begun c.begin_all-begun.ensures.ended
@@ -139,7 +143,8 @@ returns-clause-accounted g c earlier folder sets has clock_tells wires_tell =
       b = c.work.new.storing.b.now;
       phase = is.0;
     })
-    c.work.result.met c.work.new.around.wires.now.items is.1 folder has clock_tells wires_tell (questions_of g.K.Clock g.B.Bell c.work.new.around.clock.now c.work.new.around.bell.now) c.one_choice.ensures
+    c.work.result.met c.work.new.around.wires.now.items is.1 folder has clock_tells wires_tell
+    (record { clock = earlier.asked; bell = g.B.Bell.questions c.args.around.now.bell.now; given = count_given earlier.moments }) (questions_of g.K.Clock g.B.Bell c.work.new.around.clock.now c.work.new.around.bell.now) c.one_choice.ensures
     (record { none = c.covered_end_by_steps.ensures.none; some = c.covered_end_by_steps.ensures.some }) c.work.result.passed.items c.work.ensures.passed c.work.ensures.told_only_where_begun
     c.work.ensures.collects
     (ap (λ (k : Keeping). k.held) (hides_tell c.args.context.settings.now.inputs c.args.scanned.now.listed.items c.begin_all-begun.result c.hide_begun-begun.result c.begin_all-begun.new.keeper c.hide_begun-begun.new.keeper c.hide_begun-begun.ensures).tells.others_stay
@@ -148,6 +153,7 @@ returns-clause-accounted g c earlier folder sets has clock_tells wires_tell =
     c.work.new.around.wires.now.items
     (subst (λ (v : Vec (Carrier g.row.W.Denot g.row.L.Denot) Global). WiresReturn all.wires v.items c.crew_of.new.wires.items c.work.new.around.wires.now.items) c.begin_all-begun.ensures.kept.carriers
     c.work.ensures.wires_return))
+    (c.work.ensures.looked start stood.so_far (record { settings = refl; once = refl }) stood.stands at_rest nothing)
 
 pub returns-clause-cause : goal.returns-clause-cause
 returns-clause-cause g c =

@@ -1,4 +1,4 @@
-use Rattle.std.proofs.Common.{Result, Some, subst, sym}
+use Rattle.std.proofs.Common.{Result, Some, subst, sym, ◌∙◌}
 use Rattle.run_steps.specs.Goes.{Goes, step_words, stop_at}
 use Rattle.run_steps.specs.Questions.{questions_of}
 use Rattle.run_steps.specs.RunState.{Leaving, Phase}
@@ -7,7 +7,7 @@ use Rattle.run_steps.specs.declared.begin_error.BeginError.{BeginError}
 use Rattle.run_steps.specs.declared.beginning.BegunFiles.{BegunFiles}
 use Rattle.run_steps.proofs.GoesOn.{goes_by_nothing}
 use Rattle.run_steps.proofs.Questions.{asks_nothing}
-use Rattle.run_steps.proofs.Whole.{all_begun_where_told, none_told}
+use Rattle.run_steps.proofs.Whole.{all_begun_where_told, none_told, not_stopped_so}
 use Rattle.run_steps.proofs.working.follow_begun.Goals as goal
 
 pub returns-in-Err-clause-goes : goal.returns-in-Err-clause-goes
@@ -24,3 +24,6 @@ returns-in-Ok-clause-told_only_where_begun g c = all_begun_where_told c.args.beg
 
 pub returns-in-Err-clause-told_only_where_begun : goal.returns-in-Err-clause-told_only_where_begun
 returns-in-Err-clause-told_only_where_begun g c = none_told c.args.begun c.in-Err.error c.from.result c.in-Err.is c.from.ensures
+
+pub returns-in-Err-clause-looked : goal.returns-in-Err-clause-looked
+returns-in-Err-clause-looked g c stopped = absurd (not_stopped_so c.in-Err.error (sym c.from.ensures ∙ stopped))

@@ -1,4 +1,4 @@
-use Rattle.std.proofs.Common.{◌≡◌, refl, arith}
+use Rattle.std.proofs.Common.{◌≡◌, inl, inr, ⊎_elim, refl, arith}
 use Rattle.keeper.proofs.InARow.{collects_more}
 use Rattle.rounds.specs.Crewed.{lanings}
 use Rattle.rounds.specs.Crewing.{crewing}
@@ -7,13 +7,15 @@ use Rattle.run_steps.specs.CarriersFail.{sending}
 use Rattle.run_steps.specs.ClosesTail.{Readers}
 use Rattle.run_steps.specs.FolderSeen.{seen_in}
 use Rattle.run_steps.specs.MetBy.{Since}
-use Rattle.run_steps.specs.RunState.{phase_left}
-use Rattle.run_steps.specs.Worked.{phase_worked}
+use Rattle.run_steps.specs.Onward.{rules_of}
+use Rattle.run_steps.specs.RunState.{phase_left, within}
+use Rattle.run_steps.specs.Worked.{phase_begun, phase_worked}
 use Rattle.run_steps.specs.declared.met.Met.TheVariants.{Done}
 use Rattle.rounds.specs.WordsOf.{links_of, tails_of, wires_of, words_of}
 use Rattle.run_steps.proofs.CarriersGoOn.{wires_return}
 use Rattle.run_steps.proofs.FailingRounds.{fail_after}
 use Rattle.run_steps.proofs.GoesOn.{goes_then_closes}
+use Rattle.run_steps.proofs.LeftLooks.{looks_once_closed}
 use Rattle.run_steps.proofs.Letting.{able_closed, carriers_have_passes, lanes_have_passes, none_in, none_many, some_in, spans_by_some}
 use Rattle.run_steps.proofs.ReadersGo.{readers_go_by_some}
 use Rattle.run_steps.proofs.RunTails.{wires_back}
@@ -84,7 +86,7 @@ returns-clause-ends g c start so_far same stands began =
     let is_done = λ (is : now ≡ Done). done_before all.disks (record { a = first.a.now; b = first.b.now; new_a = c.settle_after-worked.new.storing.a.now; new_b = c.settle_after-worked.new.storing.b.now }) met now
     c.settle_after-worked.ensures.last.by is in (
       phase_left (phase_worked c.args.begun met),
-      has_ended all start c.args.begun c.args.context.once (g.F.Folder.told c.args.around.now.folder.now) (g.F.Folder.told c.close_all.new.folder) (g.K.Clock.moments c.args.around.now.clock.now)
+      has_ended all start c.args.begun (rules_of c.args.context) (g.F.Folder.told c.args.around.now.folder.now) (g.F.Folder.told c.close_all.new.folder) (g.K.Clock.moments c.args.around.now.clock.now)
           (g.K.Clock.moments c.follow_begun-worked.new.system.clock.now) c.args.crew one (record one { lanes = with_items one.lanes c.close_all.new.lanes }) c.settle_after-worked.new.crew
           c.args.storing.now first c.settle_after-worked.new.storing met now c.args.around.now.wires.now.items c.end_crew.new.wires.items
           (record {
@@ -238,3 +240,23 @@ returns-clause-still_tell g c = record {
   a = λ told. c.settle_after-worked.ensures.last.hands_on.still_tell.a (c.follow_begun-worked.ensures.goes.keeps.still_tell.a told);
   b = λ told. c.settle_after-worked.ensures.last.hands_on.still_tell.b (c.follow_begun-worked.ensures.goes.keeps.still_tell.b told);
 }
+
+pub returns-clause-looked : goal.returns-clause-looked
+returns-clause-looked g c start so_far same stands began nothing stopped twice =
+    let all = words_of g.F.Tail.Tail g.L.Link g.W.Wire g.D.Disk in
+    let one = c.follow_begun-worked.new.crew in
+    let first = c.follow_begun-worked.new.storing in
+    let met = c.follow_begun-worked.result.met in
+    let folder = c.follow_begun-worked.new.system.folder in
+    let before = stopped_before all.disks (record { a = first.a.now; b = first.b.now; new_a = c.settle_after-worked.new.storing.a.now; new_b = c.settle_after-worked.new.storing.b.now }) met
+    c.settle_after-worked.result.met c.settle_after-worked.ensures.last.by stopped in
+    let closes = some_in (tails_of g.F.Tail.Tail) (seen_in g.F.Folder folder.now) (seen_in g.F.Folder c.close_all.new.folder) one.lanes c.as_mut_slice.result.now c.close_all.new.lanes
+    c.as_mut_slice.ensures.value c.close_all.ensures.closes in
+    let none = none_in (tails_of g.F.Tail.Tail) (seen_in g.F.Folder folder.now) (seen_in g.F.Folder c.close_all.new.folder) one.lanes c.as_mut_slice.result.now c.close_all.new.lanes
+    c.close_all.ensures.none_left c.as_mut_slice.ensures.value c.close_all.ensures.closes in
+    ⊎_elim (λ no_file. inl no_file)
+    (λ some. inr (looks_once_closed all closes.closed (seen_in g.F.Folder folder.now) (seen_in g.F.Folder c.close_all.new.folder) (g.K.Clock.moments c.follow_begun-worked.new.system.clock.now) one
+    (with_items one.lanes c.close_all.new.lanes) first (phase_worked c.args.begun met) closes.each none (rules_of c.args.context)
+    (within (g.F.Folder.told c.args.around.now.folder.now) (g.K.Clock.moments c.args.around.now.clock.now) c.args.crew c.args.storing.now (phase_begun c.args.begun))
+    c.follow_begun-worked.ensures.goes.onward start so_far same stands began some))
+    (c.follow_begun-worked.ensures.looked before nothing twice)
