@@ -1,6 +1,6 @@
 -- A run that ended for want of epochs read a file that kept its key at each fall of its length, and whose first epoch and these falls are
 -- one above the last epoch.
-use Rattle.std.proofs.Common.{◌≡◌, inl, inr, ℕ, ◌+◌, List, [], ◌∷◌, ◌++◌, Contains, length, map, Option, Some, None, IsSome, IfSome, refl, sym, ap, subst, ◌∙◌, arith, false}
+use Rattle.std.proofs.Common.{◌≡◌, inl, inr, ℕ, ◌+◌, ◌≤◌, List, [], ◌∷◌, ◌++◌, Contains, length, map, Option, Some, None, IsSome, IfSome, refl, sym, ap, subst, ◌∙◌, arith, false}
 use Rattle.std.specs.Prelude.{slice_get}
 use Rattle.std.specs.List.{AllByRecursion}
 use Rattle.accounts.proofs.Askings.{asking_reads}
@@ -142,6 +142,12 @@ module _ {T W L D : Type 0} (words : Words T W L D) (start : Began D) (ending : 
           let fell = falls in
           omega (arith, now, last, fell)
 
+      began_in : file.begin.epoch.0 ≤ MAX_EPOCH
+      began_in =
+          let now = present_epoch file.begin.epoch.0 file.begin.base h.past h.present told.history.epochs in
+          let last = last_over.is.last in
+          omega (arith, now, last)
+
       -- and at each of these falls it still had its key
       kept_key : AllByRecursion (KeepsKey file.rule file.begin.key file.begin.path file.file) (segments_of file.begin.base tail.looks)
       kept_key =
@@ -172,6 +178,7 @@ module _ {T W L D : Type 0} (words : Words T W L D) (start : Began D) (ending : 
         closed = subst (λ (n : ℕ). WasClosedWith after n tail.looks) told.tail.opening closed;
         kept_key = subst (λ (p : List ℕ). AllByRecursion (KeepsKey file.rule file.begin.key p file.file) (segments_of (start_among start.opening one).base tail.looks)) path_is
             (subst (λ (n : ℕ). AllByRecursion (KeepsKey file.rule file.begin.key file.begin.path file.file) (segments_of n tail.looks)) base_is kept_key);
+        began_in = subst (λ (n : ℕ). n ≤ MAX_EPOCH) epoch_is began_in;
         above_the_last = subst (λ (n : ℕ). n + falls_in (start_among start.opening one).base tail.looks ≡ MAX_EPOCH + 1) epoch_is
             (subst (λ (n : ℕ). file.begin.epoch.0 + falls_in n tail.looks ≡ MAX_EPOCH + 1) base_is all_epochs);
       }

@@ -89,6 +89,7 @@ ran_out = record {
   looks = looks;
   closed = record { faults = 0; closing = refl };
   kept_key = (inl refl, (inr still_has_key, tt));
+  began_in = omega arith;
   above_the_last = refl;
 }
 
@@ -117,6 +118,10 @@ not_yet ran =
     let sum : 4_294_967_294 + falls_in 5 ran.looks ≡ 4_294_967_296 = ran.above_the_last in
     let one : falls_in 5 ran.looks ≡ 1 = ap (falls_in 5) same in
     omega (arith, sum, one)
+
+-- one that was listed with fewer bytes than its row's offset would begin above the last epoch, so it is not one whose length fell there
+not_where_none_is_left : RanOutOfEpochs (input ∷ []) (row_of_epoch MAX_EPOCH ∷ []) (file_of_size 3) before now → ⊥
+not_where_none_is_left ran = let above : MAX_EPOCH + 1 ≤ MAX_EPOCH = ran.began_in in omega (arith, above)
 
 -- an input that knows its files by their first two bytes
 abbrev fingerprinted : InputRule

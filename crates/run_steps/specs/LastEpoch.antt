@@ -66,8 +66,8 @@ AreToldInEpochs tellings = AllByRecursion (λ telling. (telling.told ≡ []) ⊎
 abbrev pub falls_in : ℕ → List Look → ℕ
 falls_in place looks = length (segments_of place looks) - 1
 
--- the listed file was opened since then, and its tail was closed with these looks: it still had its key wherever its length had fallen, and
--- its first epoch and these falls are one above the last of the epochs from 0 to `MAX_EPOCH`
+-- the listed file was opened since then, and its tail was closed with these looks: it still had its key wherever its length had fallen, its
+-- first epoch is one that there is, and that epoch and these falls are one above the last of the epochs from 0 to `MAX_EPOCH`
 pub record RanOutOfEpochs (inputs : List InputRule) (rows : List Row) (one : Listed) (before after : FolderHistory) : Type 0 where
   pub rule : InputRule
   pub rule_is : slice_get inputs one.input ≡ Some rule
@@ -83,6 +83,7 @@ pub record RanOutOfEpochs (inputs : List InputRule) (rows : List Row) (one : Lis
   pub looks : List Look
   pub closed : WasClosedWith after opening looks
   pub kept_key : AllByRecursion (KeepsKey rule key one.path file) (segments_of (start_among rows one).base looks)
+  pub began_in : (start_among rows one).epoch ≤ MAX_EPOCH
   pub above_the_last : (start_among rows one).epoch + falls_in (start_among rows one).base looks ≡ MAX_EPOCH + 1
 
 -- ---- by the account

@@ -46,7 +46,7 @@ ending_of folder clock storing around phase = record {
   phase = phase;
 }
 
--- what they tell before and after it; the bell was not asked before it set out
+-- what they tell before and after it; before it set out it had asked neither the bell nor a wire
 abbrev pub objects_of : {F T W L D K B : Type 0} → FolderGhosts F T → ClockGhosts K → BellGhosts B → WireGhosts W L → FolderTold → Earlier D →
     Surroundings F W K B → Storing D → Surroundings F W K B → RunObjects D
 objects_of folder clock bell wire told earlier before storing after = record {

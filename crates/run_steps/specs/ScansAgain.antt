@@ -1,6 +1,7 @@
 -- A scan after the first one, as it changes the folder (Filebeat reference, filestream input, prospector; this project's profile): the root of each glob is
--- listed once, and then each listed file whose input asks for it is asked for its key, also after what fails. What such a scan answers is exactly what
--- it showed, and it is called whole exactly if no listing failed and no asking. Or it was cut off.
+-- listed once, and then each listed file whose input asks for it is asked for its key, also after what fails. If what the folder tells is known, and its
+-- count of faults is not at its end, then what such a scan answers is exactly what it showed, and it is called whole exactly if no listing failed and no
+-- asking. Or it was cut off.
 use Rattle.std.specs.Prelude.{◌≡◌, ◌⊎◌, ℕ, ◌-◌, ◌^◌, ◌<◌, ◌≤◌, true, false, All, flat_map, List, Option, None, Some}
 use Rattle.event_tree.specs.declared.input_rule.InputRule.{InputRule}
 use Rattle.event_tree.specs.declared.settings.Settings.{Settings}
