@@ -13,8 +13,6 @@ import shutil
 import subprocess
 import sys
 import tempfile
-import threading
-from concurrent.futures import ThreadPoolExecutor
 from pathlib import Path
 
 ROOT = Path(__file__).resolve().parents[1]
@@ -22,7 +20,9 @@ IN_GATE = ROOT / "crates"
 BESIDE = ROOT / "tests" / "edits"
 # what a check of one crate may take of memory, so that as many run side by side as there is room for
 CHECK_MEMORY_BYTES = 5 << 30
-REFUSED = re.compile(r"^rt: must-fail (\S+): refused, as it must be", re.MULTILINE)
+# what a run says of how long it takes
+COST = "after what no gate has proved here: about 1 processor minute an edit"
+REFUSED = re.compile(r"rt: must-fail (\S+): refused, as it must be")
 FILE, OLD, NEW = "file: ", "old: ", "new:"
 
 
@@ -75,40 +75,11 @@ def check(found):
     return 1 if faults else 0
 
 
-def needed(names):
-    """These crates, and those that they stand on."""
-    below = {}
-    for line in (ROOT / "crates.txt").read_text().splitlines():
-        if line and not line.startswith("#"):
-            name, _, used = line.partition(":")
-            below[name.split()[0]] = used.split()
-    found, left = set(), list(names)
-    while left:
-        name = left.pop()
-        if name in below and name not in found:
-            found.add(name)
-            left += below[name]
-    return found
-
-
-def linked(source, target):
-    """Gives a file a second name, which takes no room; copies it where the folders are on different disks."""
-    try:
-        os.link(source, target)
-    except OSError:
-        shutil.copy2(source, target)
-
-
 def copied(room, found):
-    """Lays the repository out in the folder `room`, with the chosen edits, and with what earlier checks kept."""
-    (room / "crates").mkdir()
+    """Lays the repository out in the folder `room`, with these edits and no others."""
+    shutil.copytree(IN_GATE, room / "crates", ignore=shutil.ignore_patterns("must-fail", "out"))
     for name in ("crates.txt", "HANDLES"):
         shutil.copy(ROOT / name, room)
-    # no file of these is written again in place: rt makes a library anew in a new folder
-    ignored, kept = shutil.ignore_patterns("must-fail", "incremental"), needed(found)
-    for crate in IN_GATE.iterdir():
-        omitted = ignored if crate.name in kept else shutil.ignore_patterns("must-fail", "out")
-        shutil.copytree(crate, room / "crates" / crate.name, ignore=omitted, copy_function=linked)
     for crate, files in found.items():
         folder = room / "crates" / crate / "must-fail"
         folder.mkdir()
@@ -117,41 +88,34 @@ def copied(room, found):
 
 
 def at_once():
+    """How many checks run side by side, as rt ci takes it from the environment."""
     pages = os.sysconf("SC_PHYS_PAGES") * os.sysconf("SC_PAGE_SIZE")
     return max(1, min(len(os.sched_getaffinity(0)), pages // CHECK_MEMORY_BYTES))
 
 
 def try_all(found):
-    """Tries the edits, crate by crate, and returns the exit status."""
-    count, jobs = sum(map(len, found.values())), at_once() if len(found) > 1 else 1
-    print(f"trying {count} edits of {len(found)} crates, {jobs} at a time; a crate takes 1 to 10 minutes", flush=True)
-    if jobs > 1:
-        # side by side they must not build one library twice
-        print("first proving what is not yet proved here, which takes up to 100 processor minutes", flush=True)
-        proved = subprocess.run(["rt", "all", "check", "--jobs", str(jobs)], cwd=ROOT, stdout=subprocess.PIPE, text=True)
-        if proved.returncode:
-            print(f"{proved.stdout}edits: 0 refused, {count} not tried: a crate is not proved")
-            return 1
-    printing = threading.Lock()
+    """Tries the edits over the crates as a gate on this machine proved them, and returns the exit status."""
+    count = sum(map(len, found.values()))
+    given = {"RT_JOBS": str(at_once()), **os.environ}
+    print(f"trying {count} edits of {len(found)} crates, {given['RT_JOBS']} at a time, {COST}", flush=True)
+    refused = dict.fromkeys(found, 0)
     with tempfile.TemporaryDirectory(prefix="edits-") as folder:
-        room = Path(folder)
-        copied(room, found)
-
-        def refused_of(crate):
-            words = ["rt", "must-fail", crate]
-            ran = subprocess.run(words, cwd=room, stdout=subprocess.PIPE, stderr=subprocess.STDOUT, text=True)
-            with printing:
-                print(ran.stdout, end="", flush=True)
-            return len(REFUSED.findall(ran.stdout)) if ran.returncode == 0 else -1
-
-        with ThreadPoolExecutor(jobs) as pool:
-            refused = list(pool.map(refused_of, found))
-    total = sum(max(it, 0) for it in refused)
-    failed = [crate for crate, it in zip(found, refused) if it != len(found[crate])]
+        copied(Path(folder), found)
+        ran = subprocess.Popen(
+            ["rt", "ci", *found], cwd=folder, env=given, stdout=subprocess.PIPE, stderr=subprocess.STDOUT, text=True
+        )
+        for line in ran.stdout:
+            if line.startswith("rt: "):
+                print(line, end="", flush=True)
+            if tried := REFUSED.match(line):
+                refused[tried.group(1).partition("/")[0]] += 1
+        status = ran.wait()
+    failed = [crate for crate, files in found.items() if refused[crate] != len(files)]
     for crate in failed:
         print(f"FAILED {crate}")
+    total = sum(refused.values())
     print(f"edits: {total} refused, {count - total} not refused")
-    return 1 if failed else 0
+    return 1 if failed or status else 0
 
 
 def main():
