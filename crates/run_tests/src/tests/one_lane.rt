@@ -1,4 +1,4 @@
 mod calls;
 mod files;
+mod many_rounds;
 mod rig;
-mod rounds;

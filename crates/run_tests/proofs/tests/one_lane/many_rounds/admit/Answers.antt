@@ -1,6 +1,6 @@
 use Rattle.lanes.specs.Laning.{laning}
 use Rattle.run_tests.proofs.Readies.{admitted_ready}
-use Rattle.run_tests.proofs.tests.one_lane.rounds.admit.Goals as goal
+use Rattle.run_tests.proofs.tests.one_lane.many_rounds.admit.Goals as goal
 
 pub returns-in-Ok-admit : goal.returns-in-Ok-admit
 returns-in-Ok-admit g c =

@@ -1,7 +1,7 @@
 use Rattle.std.proofs.Common.{◌≡◌}
 use Rattle.lanes.specs.Laning.{laning}
 use Rattle.run_tests.specs.Ready.{IsReady}
-use Rattle.run_tests.proofs.tests.one_lane.rounds.rounds.Given as goal
+use Rattle.run_tests.proofs.tests.one_lane.many_rounds.rounds.Given as goal
 
 abbrev pub invariant-rounds : goal.invariant-rounds
 invariant-rounds g l = record {
