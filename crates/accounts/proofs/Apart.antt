@@ -87,7 +87,7 @@ module _ (slot : Slot) (epoch : ℕ) where
 abbrev pub numbers_of : List Telling → List ℕ
 numbers_of tellings = map (λ (telling : Telling). telling.epoch) tellings
 
-numbers_later : (before : ℕ) (tellings : List Telling) (number : ℕ) → AreNumberedFrom before tellings → Contains (numbers_of tellings) number → before < number
+pub numbers_later : (before : ℕ) (tellings : List Telling) (number : ℕ) → AreNumberedFrom before tellings → Contains (numbers_of tellings) number → before < number
 numbers_later before [] number are there = absurd (none_there number there)
 numbers_later before (telling ∷ later) number are there = by_case (there_cases telling.epoch number (numbers_of later) there) (numbers_later (before + 1) later number are.2)
   where

@@ -230,7 +230,7 @@ module _ (files : List Filed) (hiddens : List Hidden) (workers : List Taken) (no
         (λ n begin is of_slot. absurd (let q : None ≡ Some span = sym (ap (span_in present.epoch) begin.is) ∙ is in cc))
         (λ n seen same is of_slot. absurd (let q : None ≡ Some span = sym (ap (span_in present.epoch) seen.is) ∙ is in cc))
         (λ n ground is of_slot.
-        let of = settled_span (turned_of files) turned_apart epochs (acknowledged_in workers) (slot_in file) present.epoch span n ground of_slot is in
+        let of = settled_span (turned_of files) (acknowledged_in workers) (slot_in file) present.epoch span n ground of_slot is in
         let telling : of.telling ≡ present =
         one_epoch (turned_of files) turned_apart epochs of.turned (turned_in file) of.telling present of.of (record { of_files = turned_there; of_file = present_there })
         (of.slot_is ∙ sym slot_is) of.epoch_is in

@@ -24,6 +24,7 @@ pub mod HiddenLost
 pub mod HiddenSlots
 pub mod Histories
 pub mod InARow
+pub mod InTurn
 pub mod Joined
 pub mod JoinedFile
 pub mod Joining

@@ -28,11 +28,10 @@ use Rattle.accounts.specs.Ground.{HasGround, IsEpochOf, IsNoteBy}
 use Rattle.accounts.specs.Hidden.{Hidden, hidden_begin, hidden_forget}
 use Rattle.accounts.specs.ToldNotes.{IsForgetOf, IsNamingOf, MayTell}
 use Rattle.accounts.specs.Turned.{Turned}
-use Rattle.accounts.proofs.Apart.{IsInEpochs}
 use Rattle.accounts.proofs.Begins.{HasItsBegin, begin_begins, begins_still}
 use Rattle.accounts.proofs.Lists.{each_then}
 use Rattle.accounts.proofs.Grounded.{each_member}
-use Rattle.accounts.proofs.Orderly.{events_apart, member_is}
+use Rattle.accounts.proofs.Orderly.{member_is}
 
 -- ---- one behind the other
 
@@ -196,16 +195,13 @@ told_settles_nothing files hiddens note (inr (inr (inr of))) = by_kind of.is
     by_kind (inl named) = λ epoch. ap (span_in epoch) named.is
     by_kind (inr forget) = λ epoch. ap (span_in epoch) forget.is
 
-module _ (files : List Turned) (apart : AreDistinct (map (λ (turned : Turned). turned.slot.0) files)) (epochs : AllByRecursion IsInEpochs files) (acknowledged : List Parcel) where
+-- settled spans of one epoch are one or apart
+abbrev pub SettleApart : List Turned → Type 0
+SettleApart files = (slot epoch : ℕ) (span other : Extent) → IsSettledEvent files slot epoch span → IsSettledEvent files slot epoch other → AreEqualOrApart span other
+
+module _ (files : List Turned) (acknowledged : List Parcel) where
   abbrev pub Grounded : Note → Type 0
   Grounded = HasGround files acknowledged
-
-  -- settled spans of one epoch are one or apart
-  span_is_apart : (slot epoch : ℕ) (span other : Extent) → IsSettledEvent files slot epoch span → IsSettledEvent files slot epoch other → AreEqualOrApart span other
-  span_is_apart slot epoch span other one two =
-      subst (λ (e : Extent). AreEqualOrApart e other) one.span_is (subst (AreEqualOrApart one.event.span) two.span_is
-      (events_apart files apart epochs one.turned two.turned one.telling two.telling one.event two.event one.of two.of one.told two.told
-      (one.slot_is ∙ sym two.slot_is) (one.epoch_is ∙ sym two.epoch_is)))
 
   pub settled_span : (slot epoch : ℕ) (other : Extent) (note : Note) → Grounded note → slot_of note ≡ slot → span_in epoch note ≡ Some other → IsSettledEvent files slot epoch other
   settled_span slot epoch other (Settle of named span cause) ground slots spans = by_epoch (named.0 == epoch) refl spans
@@ -229,55 +225,56 @@ module _ (files : List Turned) (apart : AreDistinct (map (λ (turned : Turned). 
   abbrev pub SettlesSo : Note → Type 0
   SettlesSo note = SettlesNothing note ⊎ Grounded note
 
-  spans_are_apart : (notes : List Note) (slot epoch : ℕ) (span : Extent) → AllByRecursion SettlesSo notes → IsSettledEvent files slot epoch span →
-      All (AreEqualOrApart span) (spans_in epoch (notes_of slot notes))
-  spans_are_apart notes slot epoch span each settled =
-      All-from_recursion (AreEqualOrApart span) (spans_in epoch (notes_of slot notes))
-      (each_member (AreEqualOrApart span) (spans_in epoch (notes_of slot notes)) is_apart)
-    where
-      by_kind : (other : Extent) (note : Note) → slot_of note ≡ slot → span_in epoch note ≡ Some other → SettlesSo note → AreEqualOrApart span other
-      by_kind other note slots spans (inl none) = absurd (let q : None ≡ Some other = sym (none epoch) ∙ spans in cc)
-      by_kind other note slots spans (inr ground) = span_is_apart slot epoch span other settled (settled_span slot epoch other note ground slots spans)
+  module _ (span_is_apart : SettleApart files) where
+    spans_are_apart : (notes : List Note) (slot epoch : ℕ) (span : Extent) → AllByRecursion SettlesSo notes → IsSettledEvent files slot epoch span →
+        All (AreEqualOrApart span) (spans_in epoch (notes_of slot notes))
+    spans_are_apart notes slot epoch span each settled =
+        All-from_recursion (AreEqualOrApart span) (spans_in epoch (notes_of slot notes))
+        (each_member (AreEqualOrApart span) (spans_in epoch (notes_of slot notes)) is_apart)
+      where
+        by_kind : (other : Extent) (note : Note) → slot_of note ≡ slot → span_in epoch note ≡ Some other → SettlesSo note → AreEqualOrApart span other
+        by_kind other note slots spans (inl none) = absurd (let q : None ≡ Some other = sym (none epoch) ∙ spans in cc)
+        by_kind other note slots spans (inr ground) = span_is_apart slot epoch span other settled (settled_span slot epoch other note ground slots spans)
 
-      is_apart : (other : Extent) → Contains (spans_in epoch (notes_of slot notes)) other → AreEqualOrApart span other
-      is_apart other there =
-          let found = there_given (span_in epoch) (notes_of slot notes) other there in
-          let own = there_passed (λ (note : Note). slot_of note == slot) notes found.0 found.1 in
-          by_kind other found.0 (eqb-true (slot_of found.0) slot own.1) found.2 (member_is SettlesSo notes found.0 each own.0)
+        is_apart : (other : Extent) → Contains (spans_in epoch (notes_of slot notes)) other → AreEqualOrApart span other
+        is_apart other there =
+            let found = there_given (span_in epoch) (notes_of slot notes) other there in
+            let own = there_passed (λ (note : Note). slot_of note == slot) notes found.0 found.1 in
+            by_kind other found.0 (eqb-true (slot_of found.0) slot own.1) found.2 (member_is SettlesSo notes found.0 each own.0)
 
-  abbrev AreBegunIn : List Note → Type 0
-  AreBegunIn notes = AllByRecursion (λ (turned : Turned). HasItsBegin notes turned.slot) files
+    abbrev AreBegunIn : List Note → Type 0
+    AreBegunIn notes = AllByRecursion (λ (turned : Turned). HasItsBegin notes turned.slot) files
 
-  slot_is_begun : (notes : List Note) (turned : Turned) (slot : ℕ) → AreBegunIn notes → Contains files turned → turned.slot.0 ≡ slot → IsBegun slot notes
-  slot_is_begun notes turned slot begun there is =
-      subst (λ (n : ℕ). IsBegun n notes) is (begin_begins notes turned.slot (member_is (λ (t : Turned). HasItsBegin notes t.slot) files turned begun there))
+    slot_is_begun : (notes : List Note) (turned : Turned) (slot : ℕ) → AreBegunIn notes → Contains files turned → turned.slot.0 ≡ slot → IsBegun slot notes
+    slot_is_begun notes turned slot begun there is =
+        subst (λ (n : ℕ). IsBegun n notes) is (begin_begins notes turned.slot (member_is (λ (t : Turned). HasItsBegin notes t.slot) files turned begun there))
 
-  may_follow : (notes : List Note) (note : Note) → AllByRecursion SettlesSo notes → AreBegunIn notes → Grounded note → MayFollow notes note
-  may_follow notes (Announce slot epoch) all begun ground =
-      let of = announced_slot files acknowledged slot epoch ground in slot_is_begun notes of.0 slot.0 begun of.1 of.2
-  may_follow notes (Settle slot epoch span cause) all begun ground =
-      let settled = settled_event files acknowledged slot epoch span cause ground in (
-        slot_is_begun notes settled.turned slot.0 begun settled.of.of_files settled.slot_is,
-        spans_are_apart notes slot.0 epoch.0 span all settled,
-      )
-  may_follow notes (Begin slot key path epoch base changed) all begun ground = absurd (is_collectable files acknowledged (Begin slot key path epoch base changed) ground)
-  may_follow notes (Rename slot scan path) all begun ground = absurd (is_collectable files acknowledged (Rename slot scan path) ground)
-  may_follow notes (Seen slot changed) all begun ground = absurd (is_collectable files acknowledged (Seen slot changed) ground)
-  may_follow notes (Forget slot epoch end) all begun ground = absurd (is_collectable files acknowledged (Forget slot epoch end) ground)
+    may_follow : (notes : List Note) (note : Note) → AllByRecursion SettlesSo notes → AreBegunIn notes → Grounded note → MayFollow notes note
+    may_follow notes (Announce slot epoch) all begun ground =
+        let of = announced_slot files acknowledged slot epoch ground in slot_is_begun notes of.0 slot.0 begun of.1 of.2
+    may_follow notes (Settle slot epoch span cause) all begun ground =
+        let settled = settled_event files acknowledged slot epoch span cause ground in (
+          slot_is_begun notes settled.turned slot.0 begun settled.of.of_files settled.slot_is,
+          spans_are_apart notes slot.0 epoch.0 span all settled,
+        )
+    may_follow notes (Begin slot key path epoch base changed) all begun ground = absurd (is_collectable files acknowledged (Begin slot key path epoch base changed) ground)
+    may_follow notes (Rename slot scan path) all begun ground = absurd (is_collectable files acknowledged (Rename slot scan path) ground)
+    may_follow notes (Seen slot changed) all begun ground = absurd (is_collectable files acknowledged (Seen slot changed) ground)
+    may_follow notes (Forget slot epoch end) all begun ground = absurd (is_collectable files acknowledged (Forget slot epoch end) ground)
 
-  -- ---- as more is collected
+    -- ---- as more is collected
 
-  -- whatever notes are orderly so far, in whichever order they were told and collected
-  pub orderly_more : (notes more : List Note) → AreOrderly notes → AllByRecursion SettlesSo notes → AreBegunIn notes → AllByRecursion Grounded more → AreOrderly (notes ++ more)
-  orderly_more notes more is each begun ground = orderly_on notes more is one
-    where
-      one : (before : List Note) (note : Note) (behind : List Note) → more ≡ before ++ note ∷ behind → MayFollow (notes ++ before) note
-      one before note behind parts =
-          let all = subst (AllByRecursion Grounded) parts ground in
-          may_follow (notes ++ before) note
-          (both SettlesSo notes before each (each_then Grounded SettlesSo before (λ n has. inr has) (all_front Grounded before (note ∷ behind) all)))
-          (each_then (λ (t : Turned). HasItsBegin notes t.slot) (λ (t : Turned). HasItsBegin (notes ++ before) t.slot) files (λ t has. begins_still notes before t.slot has) begun)
-          (member_is Grounded (before ++ note ∷ behind) note all (Contains-append_right before (note ∷ behind) note (first_there note behind)))
+    -- whatever notes are orderly so far, in whichever order they were told and collected
+    pub orderly_more : (notes more : List Note) → AreOrderly notes → AllByRecursion SettlesSo notes → AreBegunIn notes → AllByRecursion Grounded more → AreOrderly (notes ++ more)
+    orderly_more notes more is each begun ground = orderly_on notes more is one
+      where
+        one : (before : List Note) (note : Note) (behind : List Note) → more ≡ before ++ note ∷ behind → MayFollow (notes ++ before) note
+        one before note behind parts =
+            let all = subst (AllByRecursion Grounded) parts ground in
+            may_follow (notes ++ before) note
+            (both SettlesSo notes before each (each_then Grounded SettlesSo before (λ n has. inr has) (all_front Grounded before (note ∷ behind) all)))
+            (each_then (λ (t : Turned). HasItsBegin notes t.slot) (λ (t : Turned). HasItsBegin (notes ++ before) t.slot) files (λ t has. begins_still notes before t.slot has) begun)
+            (member_is Grounded (before ++ note ∷ behind) note all (Contains-append_right before (note ∷ behind) note (first_there note behind)))
 
 -- ---- slots
 

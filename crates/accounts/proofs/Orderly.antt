@@ -36,7 +36,7 @@ same_item f (first ∷ xs) x y apart there other same = by_case (there_cases fir
     by_case (inr one) (inl two) later = absurd (apart.0 (subst (λ n. Contains (map f xs) n) (same ∙ ap f (sym two)) (mapped_there f xs x one)))
     by_case (inr one) (inr two) later = later one two
 
-begins_later : (place : ℕ) (told : List ToldEvent) (one : ToldEvent) → Adjoin place (spans_of told) → Contains told one → place ≤ one.span.start
+pub begins_later : (place : ℕ) (told : List ToldEvent) (one : ToldEvent) → Adjoin place (spans_of told) → Contains told one → place ≤ one.span.start
 begins_later place [] one adjoin there = absurd (none_there one there)
 begins_later place (first ∷ told) one adjoin there = by_case (there_cases first one told there) (begins_later first.span.end told one adjoin.2)
   where

@@ -41,7 +41,7 @@ HasNoneFor settings rows listed told after (met.Epochs slot) =
     (one : Listed) → slice_get listed slot.0 ≡ Some one → IfSome told (λ history. FindsNoEpoch settings.inputs history rows one.path after)
 HasNoneFor settings rows listed told after _ = Unit {0}
 
-module _ {T W L D : Type 0} (words : Words T W L D) (start : Began D) (ending : Ending D) (unused wires : List W) (goes : GoesFurther start.shown ending.shown) where
+module _ {T W L D : Type 0} (words : Words T W L D) (start : Began D) (ending : Ending D) (unused wires : List W) (once : start.once ≡ true) (goes : GoesFurther start.shown ending.shown) where
   pub has_none : (told : Option FolderHistory) → IfSome told (λ history. ScansParted start.settings.inputs history start.listed start.doubled start.shown) → (what : Met) →
       HasEnded words start ending what unused wires → HasNoneFor start.settings start.opening start.listed told ending.shown what
   has_none told scans met.Done ended = tt
@@ -69,7 +69,7 @@ module _ {T W L D : Type 0} (words : Words T W L D) (start : Began D) (ending : 
             path_is = refl;
             later = further.0;
             after_is = further.1;
-            ran_out = has_run_out words start ending (met.Epochs slot) unused wires ended slot refl parted.scanned (record parted.scanned { events = parted.scanned.events ++ further.0 }) parted.after_is further.1 one there;
+            ran_out = has_run_out words start ending (met.Epochs slot) unused wires ended once slot refl parted.scanned (record parted.scanned { events = parted.scanned.events ++ further.0 }) parted.after_is further.1 one there;
           })
 
 -- ---- where epochs are left

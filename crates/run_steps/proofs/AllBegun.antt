@@ -32,6 +32,7 @@ use Rattle.run_steps.specs.Telling.{TellMoments}
 use Rattle.run_steps.specs.Worked.{phase_begun}
 use Rattle.run_steps.specs.declared.begin_error.BeginError.{BeginError}
 use Rattle.run_steps.specs.declared.beginning.BegunFiles.{BegunFiles}
+use Rattle.run_steps.proofs.EarlierOn.{opened_once}
 use Rattle.run_steps.proofs.BeginningFiles.{BeginsBelow, IsToBegin, Leaves, leaves, one_ends, one_more}
 use Rattle.run_steps.proofs.BeginningOne.{AreBelow, Begins, at_phase, stands_at}
 use Rattle.run_steps.proofs.HiddenStands.{hides, hides_some}
@@ -49,7 +50,7 @@ none_behind xs ys long = let both = length-append xs ys in omega (arith, long, b
 -- ---- where nothing was begun, nothing was noted
 
 module _ {T W L D : Type 0} (words : Words T W L D) (start : Began D) (moments : Option (List ℕ)) (a b : D) (now : Moment) (old : Beginning T W L) (so_far : SoFar)
-    (stands : Stands words start (at_phase words start moments a b old.folder.told old.crew old.keeper Reading) so_far) (none_opened : so_far.opened ≡ []) (none_hidden : so_far.hidden ≡ []) where
+    (stands : Stands words start (at_phase words start moments a b old.folder.told old.crew old.keeper Reading) (opened_once so_far)) (none_opened : so_far.opened ≡ []) (none_hidden : so_far.hidden ≡ []) where
   no_files : files_in so_far ≡ []
   no_files = nil_by (files_in so_far) (let long = often_counted (map (λ (t : Turned). t.slot) (files_in so_far)) (map (λ (o : Opened). o.begin.slot) so_far.opened) stands.files.each_once.are in
       let none = ap (λ (l : List Opened). length (map (λ (o : Opened). o.begin.slot) l)) none_opened in
@@ -182,7 +183,7 @@ module _ {T W L D : Type 0} (words : Words T W L D) (reads : (disk : D) → IfSo
   front_listed : (count slot : ℕ) (listed : List Listed) → AreToBegin slot listed → AreListedFrom start.listed slot (take count listed)
   front_listed count slot listed to = listed_from slot (take count listed) (front_to_begin count slot listed to)
 
-  module _ (old : Beginning T W L) (so_far : SoFar) (stands : Stands words start (at_phase words start moments a b old.folder.told old.crew old.keeper Reading) so_far)
+  module _ (old : Beginning T W L) (so_far : SoFar) (stands : Stands words start (at_phase words start moments a b old.folder.told old.crew old.keeper Reading) (opened_once so_far))
       (none_opened : so_far.opened ≡ []) (none_hidden : so_far.hidden ≡ []) (ends : EndsAt so_far.moments now.0) (of_inputs : AllByRecursion (IsOfRuledInput start.settings) start.listed) where
     to_begin : AreToBegin 0 start.listed
     to_begin = are_to_begin [] start.listed refl of_inputs
@@ -238,8 +239,8 @@ module _ {T W L D : Type 0} (words : Words T W L D) (reads : (disk : D) → IfSo
         let told = told_then (length start.listed + 0) (take is.tell.count start.listed) is.mid new.keeper (behind_all is.came is.mid is.begins) (front_listed is.tell.count 0 start.listed to_begin) is.tell.tell in
         subst (λ (s : Beginning T W L). Further words start (at_phase words start moments a b s.folder.told s.crew s.keeper Leaving)) (sym is.others)
         (record {
-          so_far = told.so_far;
-          stands = stands_at words start moments a b is.mid.folder.told is.mid.folder.told is.mid.crew new.keeper Leaving told.so_far (λ e. let no : Leaving ≡ Finished = e in cc) tt told.stands.files.shown told.stands;
+          so_far = opened_once told.so_far;
+          stands = stands_at words start moments a b is.mid.folder.told is.mid.folder.told is.mid.crew new.keeper Leaving (opened_once told.so_far) (λ e. let no : Leaving ≡ Finished = e in cc) tt told.stands.files.shown told.stands;
         })
 
     left : (new : Beginning T W L) (keeper : Keeping) (so_far : SoFar) → Stands words start (at_phase words start moments a b new.folder.told new.crew keeper Reading) so_far →

@@ -53,6 +53,7 @@ use Rattle.run_steps.specs.declared.begin_error.BeginError.TheVariants as error
 use Rattle.run_steps.proofs.AreRead.{asked_alone}
 use Rattle.run_steps.proofs.BegunFolder.{error_shown, none_shown, unread_shown}
 use Rattle.run_steps.proofs.BeginningOne.{Begins, IsBegunSo, at_phase, stands_at, stands_same}
+use Rattle.run_steps.proofs.EarlierOn.{opened_once}
 use Rattle.run_steps.proofs.BeginningSteps.{begins_next, left_after, shown_tells, stands_left}
 use Rattle.run_steps.proofs.TailOpened.{HasTail, IsShown, has_tail, opened_now}
 use Rattle.run_steps.specs.declared.begin.Admission.{Admission}
@@ -78,14 +79,14 @@ module _ {T W L D : Type 0} (words : Words T W L D) (reads : (disk : D) → IfSo
   -- where it ends with what stands
   pub leaves : (state : Beginning T W L) (slot : ℕ) → BeginsBelow slot state → Leaves state
   leaves state slot begins = record {
-    so_far = begins.so_far;
-    stands = stands_at words start moments a b state.folder.told state.folder.told state.crew state.keeper Leaving begins.so_far (λ is. let no : Leaving ≡ Finished = is in cc) tt begins.stands.files.shown begins.stands;
+    so_far = opened_once begins.so_far;
+    stands = stands_at words start moments a b state.folder.told state.folder.told state.crew state.keeper Leaving (opened_once begins.so_far) (λ is. let no : Leaving ≡ Finished = is in cc) tt begins.stands.files.shown begins.stands;
   }
 
   -- the slots below the next one
   pub later_slot : (state : Beginning T W L) (slot : ℕ) → BeginsBelow slot state → BeginsBelow (suc slot) state
   later_slot state slot begins = record {
-    so_far = begins.so_far;
+    so_far = opened_once begins.so_far;
     stands = begins.stands;
     below = each_then (λ (o : Opened). o.begin.slot.0 < slot) (λ (o : Opened). o.begin.slot.0 < suc slot) begins.so_far.opened (λ o less. omega (arith, less)) begins.below;
     begun_are = begins.begun_are;
@@ -96,10 +97,10 @@ module _ {T W L D : Type 0} (words : Words T W L D) (reads : (disk : D) → IfSo
 
   module _ (slot : ℕ) (listed : Listed) (to : IsToBegin slot listed) (old : Beginning T W L) (begins : BeginsBelow slot old) where
     -- nothing but what the folder tells has changed
-    with_shown : (later : Option FolderHistory) → HasShown start.settings start.shown later (files_of begins.so_far) → Begins words start moments a b now later old.crew old.keeper slot
+    with_shown : (later : Option FolderHistory) → HasShown start.settings start.shown later (files_of (opened_once begins.so_far)) → Begins words start moments a b now later old.crew old.keeper slot
     with_shown later has = record {
-      so_far = begins.so_far;
-      stands = stands_at words start moments a b old.folder.told later old.crew old.keeper Reading begins.so_far (λ is. let no : Reading ≡ Finished = is in cc) tt has begins.stands;
+      so_far = opened_once begins.so_far;
+      stands = stands_at words start moments a b old.folder.told later old.crew old.keeper Reading (opened_once begins.so_far) (λ is. let no : Reading ≡ Finished = is in cc) tt has begins.stands;
       below = begins.below;
       begun_are = begins.begun_are;
       notes_are = begins.notes_are;
@@ -116,15 +117,15 @@ module _ {T W L D : Type 0} (words : Words T W L D) (reads : (disk : D) → IfSo
 
     pub none_opened : (new : Beginning T W L) → OpensNone words.tails (file_at start.opening slot listed now) (Ok None) old new → BeginsBelow (suc slot) new
     none_opened new none = later_slot new slot (moved new slot none.crew none.keeper (with_shown new.folder.told
-        (none_shown start.settings begins.so_far listed.path words.tails old.folder.states old.folder.present start.shown old.folder.told new.folder.told begins.stands.files.shown none.opens.told)))
+        (none_shown start.settings (opened_once begins.so_far) listed.path words.tails old.folder.states old.folder.present start.shown old.folder.told new.folder.told begins.stands.files.shown none.opens.told)))
 
     pub failed_opening : (new : Beginning T W L) → OpensNone words.tails (file_at start.opening slot listed now) (Err Failing) old new → BeginsBelow (suc slot) new
     failed_opening new none = later_slot new slot (moved new slot none.crew none.keeper (with_shown new.folder.told
-        (error_shown start.settings begins.so_far listed.path words.tails old.folder.states old.folder.present Failing start.shown old.folder.told new.folder.told begins.stands.files.shown none.opens.told)))
+        (error_shown start.settings (opened_once begins.so_far) listed.path words.tails old.folder.states old.folder.present Failing start.shown old.folder.told new.folder.told begins.stands.files.shown none.opens.told)))
 
     pub without_memory : (new : Beginning T W L) → OpensNone words.tails (file_at start.opening slot listed now) (Err WithoutMemory) old new → Leaves new
     without_memory new none = leaves new slot (moved new slot none.crew none.keeper (with_shown new.folder.told
-        (error_shown start.settings begins.so_far listed.path words.tails old.folder.states old.folder.present WithoutMemory start.shown old.folder.told new.folder.told begins.stands.files.shown none.opens.told)))
+        (error_shown start.settings (opened_once begins.so_far) listed.path words.tails old.folder.states old.folder.present WithoutMemory start.shown old.folder.told new.folder.told begins.stands.files.shown none.opens.told)))
 
     -- ---- one was opened
 
@@ -171,7 +172,7 @@ module _ {T W L D : Type 0} (words : Words T W L D) (reads : (disk : D) → IfSo
           -- its asking gave the key
           found_key : IsSome start.shown → GivesKey to.rule key listed.path has.one.file has.one.asked
           found_key some =
-              let tells = shown_tells start.settings begins.so_far has.one (words.tails.told tail) start.shown old.folder.told mid begins.stands.files.shown has.shown some in
+              let tells = shown_tells start.settings (opened_once begins.so_far) has.one (words.tails.told tail) start.shown old.folder.told mid begins.stands.files.shown has.shown some in
               let gave = of_told (words.tails.told tail) tells has.gave in
               subst (λ (r : InputRule). GivesKey r key listed.path has.one.file has.one.asked) (same_rule found.asks.rule to.rule (sym found.asks.rule_is ∙ to.rule_is))
               (record { asking = gave.0; gave = gave.1 ∙ ap Some (same_key found.key key (sym found.listed ∙ key_is)) })
@@ -251,10 +252,10 @@ module _ {T W L D : Type 0} (words : Words T W L D) (reads : (disk : D) → IfSo
 
       -- what the folder shows once it was closed again
       shown_closed : (mid later : Option FolderHistory) → TellsOpening words.tails.told words.tails.numbers old.folder.told old.folder.states old.folder.present listed.path (Ok (Some fresh)) mid →
-          later ≡ with_events (closing_of (words.tails.told tail) (words.tails.faults tail)) mid → HasShown start.settings start.shown later (files_of begins.so_far)
+          later ≡ with_events (closing_of (words.tails.told tail) (words.tails.faults tail)) mid → HasShown start.settings start.shown later (files_of (opened_once begins.so_far))
       shown_closed mid later opens closes =
           let of = opened_some mid opens in
-          unread_shown start.settings begins.so_far of.one (words.tails.told tail) of.reads (words.tails.faults tail) start.shown old.folder.told mid later begins.stands.files.shown of.shown closes
+          unread_shown start.settings (opened_once begins.so_far) of.one (words.tails.told tail) of.reads (words.tails.faults tail) start.shown old.folder.told mid later begins.stands.files.shown of.shown closes
 
     -- it was closed again, and the keeper was told nothing
     pub closed_again : (Why : T → T → Type 0) (new : Beginning T W L) → ClosesFile words.tails start.settings (file_at start.opening slot listed now) Why old new → BeginsBelow slot new
@@ -278,8 +279,8 @@ module _ {T W L D : Type 0} (words : Words T W L D) (reads : (disk : D) → IfSo
 
         by_case : (new.keeper ≡ is.mid.keeper) ⊎ TellsBegin (record { 0 = slot }) listed (start_among start.opening listed) is.mid.keeper new.keeper → Leaves new
         by_case (inl same) =
-            at_end old.keeper begins.so_far (same ∙ is.opened.keeper)
-            (stands_at words start moments a b old.folder.told new.folder.told old.crew old.keeper Leaving begins.so_far (λ e. let no : Leaving ≡ Finished = e in cc) tt
+            at_end old.keeper (opened_once begins.so_far) (same ∙ is.opened.keeper)
+            (stands_at words start moments a b old.folder.told new.folder.told old.crew old.keeper Leaving (opened_once begins.so_far) (λ e. let no : Leaving ≡ Finished = e in cc) tt
             (shown_closed is.fresh is.tail (Ok (Key is.keyed.key)) is.keyed.asks is.mid.folder.told new.folder.told is.opened.opens.told is.gives_up.closes.told)
             begins.stands)
         by_case (inr told) =

@@ -16,6 +16,8 @@ use Rattle.harvester.specs.Standing.{EndsAt}
 use Rattle.keeper.specs.Keeping.{Keeping}
 use Rattle.lanes.specs.Laning.{Laning}
 use Rattle.outside.specs.Folders.{FolderHistory}
+use Rattle.std.specs.Prelude.{slice_get}
+use Rattle.wire_base.specs.declared.note.Begin.{Begin}
 use Rattle.pass_sums.specs.Weight.{AsOften, weigh}
 use Rattle.pass_sums.proofs.Weights.{weigh-append}
 use Rattle.rounds.specs.Crewed.{lanings}
@@ -28,13 +30,14 @@ use Rattle.wire_base.specs.declared.numbers.Moment.{Moment}
 use Rattle.wire_base.specs.declared.numbers.Slot.{Slot}
 use Rattle.run_steps.specs.Began.{Began}
 use Rattle.run_steps.specs.Beginning.{SameLanes}
-use Rattle.run_steps.specs.Begun.{AreBeginNotes, AreSlotsFrom, IsKeyed, IsOpenedAsListed, MayBegin, noted_begin}
+use Rattle.run_steps.specs.Begun.{AreBeginNotes, AreSlotsFrom, IsKeyed, IsOpenedAsListed, IsRuled, MayBegin, noted_begin}
 use Rattle.run_steps.specs.LastEpoch.{HaveOneOver}
 use Rattle.run_steps.specs.RunState.{Finished, Phase, Reading, RunState}
 use Rattle.run_steps.specs.Shown.{HasShown, IsTurnedIn}
 use Rattle.run_steps.specs.SoFar.{Left, SoFar, books_of, files_in, files_of}
 use Rattle.run_steps.specs.Stands.{AreEachOnce, Books, Files, Stands}
 use Rattle.run_steps.proofs.AreRead.{none_left_read}
+use Rattle.run_steps.proofs.EarlierOn.{opened_once}
 use Rattle.run_steps.proofs.Admitting.{all_of, often_mapped, spans_often}
 use Rattle.accounts.proofs.Joining.{same_slot, tells_slots}
 use Rattle.run_steps.proofs.TailOpened.{opened_now}
@@ -89,10 +92,12 @@ module _ {T W L D : Type 0} (words : Words T W L D) (start : Began D) (moments :
   stands_at shown later crew keeper phase so_far not_finished over has stands = record {
     files = record {
       opened = stands.files.opened;
+      ruled = stands.files.ruled;
       keyed = stands.files.keyed;
       each_once = stands.files.each_once;
       turned = stands.files.turned;
       left = stands.files.left;
+      earlier = stands.files.earlier;
       reading = λ is. stands.files.reading refl;
       finished = λ is some. absurd (not_finished is);
       over = over;
@@ -131,7 +136,8 @@ module _ {T W L D : Type 0} (words : Words T W L D) (start : Began D) (moments :
   -- those of slots below this one were
   pub record Begins (now : Moment) (shown : Option FolderHistory) (crew : Crew T W L) (keeper : Keeping) (slot : ℕ) : Type 0 where
     pub so_far : SoFar
-    pub stands : Stands words start (at_phase shown crew keeper Reading) so_far
+    -- none was opened again
+    pub stands : Stands words start (at_phase shown crew keeper Reading) (opened_once so_far)
     pub below : AreBelow slot so_far.opened
     pub begun_are : so_far.begun ≡ map (λ (one : Opened). noted_begin one.begin) so_far.opened
     -- and the keeper has noted nothing else
@@ -147,7 +153,7 @@ module _ {T W L D : Type 0} (words : Words T W L D) (start : Began D) (moments :
 
   module _ (now : Moment) (shown : Option FolderHistory) (crew : Crew T W L) (keeper : Keeping) (slot : ℕ) (begins : Begins now shown crew keeper slot) where
     abbrev was : SoFar
-    was = begins.so_far
+    was = opened_once begins.so_far
 
     pub none_left : was.left ≡ []
     none_left = (begins.stands.files.reading refl).none_left
@@ -177,6 +183,12 @@ module _ {T W L D : Type 0} (words : Words T W L D) (start : Began D) (moments :
 
       pub opened_as_listed : AllByRecursion (IsOpenedAsListed start.settings start.opening start.listed) more
       opened_as_listed = each_last (IsOpenedAsListed start.settings start.opening start.listed) was.opened one begins.stands.files.opened so.as_listed
+
+      pub ruled : AllByRecursion (IsRuled start.settings) more
+      ruled = each_last (IsRuled start.settings) was.opened one begins.stands.files.ruled (record {
+        rule_is = ap (λ (b : Begin). slice_get start.settings.inputs b.input) so.as_listed.begin_is ∙ so.as_listed.rule_is;
+        in_range = so.as_listed.in_range;
+      })
 
       pub keyed : IsSome start.shown → AllByRecursion IsKeyed more
       keyed some = each_last IsKeyed was.opened one (begins.stands.files.keyed some) (so.keyed some)

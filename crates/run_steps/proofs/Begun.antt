@@ -61,10 +61,10 @@ module _ {T W L : Type 0} (tails : TailWords T) (settings : Settings) (file : Li
   follows_by (Err error) tail harvester old new opened taken = tt
 
   -- with what the folder showed once the file was open
-  abbrev opened_so : Beginning T W L → FolderSeen → Beginning T W L
+  abbrev pub opened_so : Beginning T W L → FolderSeen → Beginning T W L
   opened_so old folder = record old { folder = folder }
 
-  has_opened : (tail : T) (old : Beginning T W L) (folder : FolderSeen) (result : Result (Option T) FolderError) → OpensBy tails file.listed.path result old.folder folder → result ≡ Ok (Some tail)
+  pub has_opened : (tail : T) (old : Beginning T W L) (folder : FolderSeen) (result : Result (Option T) FolderError) → OpensBy tails file.listed.path result old.folder folder → result ≡ Ok (Some tail)
       → HasOpened tails file tail old (opened_so old folder)
   has_opened tail old folder result opens is = record { opens = subst (λ (r : Result (Option T) FolderError). OpensBy tails file.listed.path r old.folder folder) is opens; crew = refl; keeper = refl }
 

@@ -23,6 +23,7 @@ use Rattle.run_steps.specs.Scanned.{HasScanned}
 use Rattle.run_steps.specs.Shown.{HasDone}
 use Rattle.run_steps.specs.SoFar.{SoFar, files_of}
 use Rattle.accounts.proofs.InARow.{same_place}
+use Rattle.run_steps.proofs.EarlierOn.{opened_once}
 use Rattle.run_steps.proofs.NamedInputs.{inputs_have_own_ids}
 use Rattle.told_scans.proofs.NamesApart.{names_apart}
 use Rattle.told_scans.proofs.ScanList.{entry_of, everyone, keyed_files}
@@ -31,7 +32,7 @@ use Rattle.told_scans.proofs.FirstPaths.{apart, none_before}
 use Rattle.told_scans.specs.ToldScan.{IsAround, IsTold, RunAround, ToldScan}
 use Rattle.run_steps.proofs.OneScan.{around_one, is_around, told_so}
 
-module _ {D : Type 0} (start : Began D) (folder : FolderTold) (has : HasScanned start folder) (so_far : SoFar) (done : HasDone start.settings folder.scanned folder.ended (files_of so_far))
+module _ {D : Type 0} (start : Began D) (folder : FolderTold) (has : HasScanned start folder) (so_far : SoFar) (done : HasDone start.settings folder.scanned folder.ended (files_of (opened_once so_far)))
     (wires : List WireTold) where
   abbrev run : Run
   run = run_of start folder so_far.moments wires

@@ -51,6 +51,7 @@ use Rattle.run_steps.specs.LastEpoch.{HasAnswered}
 use Rattle.run_steps.specs.Stands.{AreCounted, AreTurnedIn, HaveGiven, Stands, watch_of}
 use Rattle.run_steps.proofs.AreRead.{none_left_read}
 use Rattle.run_steps.proofs.Giving.{FirstGiven, first_given}
+use Rattle.run_steps.proofs.EarlierOn.{none_earlier}
 use Rattle.run_steps.proofs.Grounds.{all_backed}
 
 posted_both : (xs ys : List Sender) → posted_by (xs ++ ys) ≡ posted_by xs ++ posted_by ys
@@ -169,6 +170,7 @@ module _ {T W L D : Type 0} (words : Words T W L D) (start : Began D) (crew : Cr
       hidden = [];
       lanes = none_in (lanings crew.lanes.items);
       left = [];
+      earlier = [];
       told = record { issued = []; noted = []; acknowledged = heard_by words.wires crew.carriers.items };
       begun = [];
       collected = [];
@@ -257,6 +259,7 @@ module _ {T W L D : Type 0} (words : Words T W L D) (start : Began D) (crew : Cr
           apart = tt;
           serve = λ opening path number begun since is. absurd (let within = got_within told.events opening (Opened path number begun) is in omega (arith, since, within));
           closed = tt;
+          closed_before = tt;
           still_open = λ one among turned. absurd (none_there one among);
         }
 
@@ -264,10 +267,12 @@ module _ {T W L D : Type 0} (words : Words T W L D) (start : Began D) (crew : Cr
     stands_first = record {
       files = record {
         opened = tt;
+        ruled = tt;
         keyed = λ some. tt;
         each_once = record { rise = tt; are = subst (λ (l : List Turned). AsOften (map (λ (t : Turned). t.slot) l) []) (sym no_files) (λ h. refl) };
         turned = turned_none words.tails (watch_of start []) [] given.since (lanings crew.lanes.items) none;
         left = tt;
+        earlier = none_earlier (watch_of start []) start.shown [] given.since;
         reading = λ is. record { none_left = refl; none_over = each_of_none (λ (h : Harvester T). h.reader.stage ≢ stage.Over) (lanings crew.lanes.items) none };
         finished = λ is some. absurd (let no : Reading ≡ Finished = is in cc);
         over = tt;

@@ -28,11 +28,12 @@ use Rattle.run_steps.specs.Scanned.{HasScanned}
 use Rattle.run_steps.specs.Shown.{openings_of}
 use Rattle.run_steps.specs.SoFar.{SoFar}
 use Rattle.run_steps.specs.Stands.{Stands}
+use Rattle.run_steps.proofs.EarlierOn.{opened_once}
 use Rattle.run_steps.proofs.Looked.{none_asks}
 use Rattle.run_steps.proofs.ReadPlaces.{OnlyRead}
 use Rattle.run_steps.proofs.RunFiles.{done, files, joined}
 
-module _ {T W L D : Type 0} (words : Words T W L D) (start : Began D) (state : RunState T W L D) (so_far : SoFar) (stands : Stands words start state so_far)
+module _ {T W L D : Type 0} (words : Words T W L D) (start : Began D) (state : RunState T W L D) (so_far : SoFar) (stands : Stands words start state (opened_once so_far))
     (released : All HasNoHarvesters (lanings state.crew.lanes.items)) (folder : FolderTold) (has : HasScanned start folder) (shown : state.shown ≡ Some folder.ended)
     (wires : List WireTold) (placed : Parcel → Option Place) (since : HasLookedSince folder.scanned folder.ended) where
   abbrev run : Run

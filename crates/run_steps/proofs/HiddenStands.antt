@@ -25,6 +25,7 @@ use Rattle.run_steps.specs.RunState.{Phase}
 use Rattle.run_steps.specs.SoFar.{SoFar}
 use Rattle.run_steps.specs.Stands.{Further, Stands}
 use Rattle.run_steps.specs.Telling.{TellsNotes}
+use Rattle.run_steps.proofs.EarlierOn.{opened_once}
 use Rattle.run_steps.proofs.BeginningOne.{at_phase, may_still}
 use Rattle.run_steps.proofs.BegunNotes.{front_orderly}
 use Rattle.run_steps.proofs.HiddenAmong.{hidden_orderly}
@@ -51,7 +52,7 @@ module _ {T W L D : Type 0} (words : Words T W L D) (reads : (disk : D) → IfSo
     (start : Began D) (moments : Option (List ℕ)) (a b : D) (shown : Option FolderHistory) (crew : Crew T W L) where
   module _ (phase : Phase) (opened : List Opened) (old : Keeping) (is : StandsUncollected words reads counts start moments a b shown crew phase opened old) where
     abbrev was : SoFar
-    was = is.so_far
+    was = opened_once is.so_far
 
     -- all notes so far are of slots of listed files
     below : AllByRecursion (HasSlotBelow (length start.listed)) old.tracked.notes
@@ -101,7 +102,7 @@ module _ {T W L D : Type 0} (words : Words T W L D) (reads : (disk : D) → IfSo
   hides phase opened old new is rows tells =
       let all = subst (λ (l : List Row). TellsHidden start.settings.inputs start.listed l old new) rows tells in
       record {
-        so_far = record is.so_far { begun = is.so_far.begun ++ hidden_notes all.hiddens; hidden = all.hiddens };
+        so_far = record (opened_once is.so_far) { begun = is.so_far.begun ++ hidden_notes all.hiddens; hidden = all.hiddens };
         stands = hidden_stand phase opened old is new all.hiddens
             (record { ordered = all.ordered; count = length start.opening; are = subst (λ (l : List Row). AreHiddenAmong start.settings.inputs start.listed (length start.listed) l all.hiddens) (sym (take_all_rows start.opening)) all.are })
             (hidden_notes all.hiddens) [] (sym (append-nil (hidden_notes all.hiddens))) (all_begun all.hiddens) all.tells;
@@ -112,6 +113,6 @@ module _ {T W L D : Type 0} (words : Words T W L D) (reads : (disk : D) → IfSo
   hides_some phase opened old new is rows tells =
       let some = subst (λ (l : List Row). TellsSomeHidden start.settings.inputs start.listed l old new) rows tells in
       record {
-        so_far = record is.so_far { begun = is.so_far.begun ++ some.told; hidden = some.hiddens };
+        so_far = record (opened_once is.so_far) { begun = is.so_far.begun ++ some.told; hidden = some.hiddens };
         stands = hidden_stand phase opened old is new some.hiddens some.so_far some.told some.left some.told_are some.begun some.tells;
       }

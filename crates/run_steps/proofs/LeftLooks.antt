@@ -1,9 +1,10 @@
 -- What open tails were asked shows in the folder's list once they are closed.
 use Rattle.std.proofs.Common.{◌≡◌, ⊎_elim, ℕ, ◌≤◌, All, List, [], ◌∷◌, length, Option, Some, None, IsSome, IfSome, inr, refl, sym, subst}
-use Rattle.std.proofs.lemmas.List.Elements.{recursion_from_All}
+use Rattle.std.proofs.lemmas.List.Elements.{Contains-append_right, recursion_from_All}
 use Rattle.std.specs.Prelude.{Vec, slice_get}
 use Rattle.std.specs.List.{AllByRecursion}
 use Rattle.std.specs.declared.alloc.Global.{Global}
+use Rattle.accounts.proofs.Grounded.{each_member}
 use Rattle.accounts.proofs.Orderly.{member_is}
 use Rattle.accounts.specs.Opened.{IsTailOf, Opened as OpenedFile}
 use Rattle.accounts.specs.Watch.{Watch}
@@ -27,7 +28,7 @@ use Rattle.run_steps.specs.Onward.{BeganBy, Onward, RunRules}
 use Rattle.run_steps.specs.Releasing.{HasNoHarvesters}
 use Rattle.run_steps.specs.RunState.{Phase, RunState, phase_left, within}
 use Rattle.run_steps.specs.Shown.{HasDone, HasShown, WasOpenedSince}
-use Rattle.run_steps.specs.SoFar.{FilesSoFar, Left, SoFar, files_of}
+use Rattle.run_steps.specs.SoFar.{FilesSoFar, Left, SoFar, files_of, opened_before, openings_within}
 use Rattle.run_steps.specs.Stands.{Files, FilesNow, IsLeftSo, Stands, watch_of}
 use Rattle.run_steps.proofs.TailClosed.{files_at, reads_on}
 use Rattle.run_steps.proofs.TailsLeft.{files_left, left_not_reading}
@@ -62,11 +63,15 @@ module _ (before after : FolderHistory) where
 module _ {T D : Type 0} (tails : TailWords T) (start : Began D) (now : FilesNow T) (so_far : FilesSoFar) (files : Files tails start now so_far) where
   left_looks : SomeOf (λ (l : Left). HasLooked l.told) so_far.left → LooksSince start.shown now.shown
   left_looks some before after first last =
-      some_left before after (watch_of start so_far.scans) so_far.opened so_far.moments done.opened so_far.left files.left (files.left_tell (subst IsSome (sym first) refl)) done.closed some
+      some_left before after (watch_of start so_far.scans) so_far.opened so_far.moments opened so_far.left files.left (files.left_tell (subst IsSome (sym first) refl)) done.closed some
     where
       done : HasDone start.settings before after so_far
       done = subst (λ (o : Option FolderHistory). HasShown start.settings (Some before) o so_far) last
           (subst (λ (o : Option FolderHistory). HasShown start.settings o now.shown so_far) first files.shown)
+
+      opened : AllByRecursion (WasOpenedSince before after) so_far.opened
+      opened = each_member (WasOpenedSince before after) so_far.opened (λ one there.
+          member_is (WasOpenedSince before after) (openings_within so_far) one done.opened (Contains-append_right (opened_before so_far.earlier) so_far.opened one there))
 
 -- ---- once all are
 

@@ -27,6 +27,7 @@ use Rattle.run_steps.specs.RunOf.{FolderTold, run_of, scan_of, told_scan}
 use Rattle.run_steps.specs.Scanned.{HasScanned}
 use Rattle.run_steps.specs.Shown.{HasDone}
 use Rattle.run_steps.specs.SoFar.{SoFar, files_of}
+use Rattle.run_steps.proofs.EarlierOn.{opened_once}
 use Rattle.run_steps.proofs.NamedInputs.{inputs_have_own_ids}
 
 abbrev pub goes_on_doing : (settings : Settings) (now later : FolderHistory) (so_far : SoFar) → HasDone settings now later (files_of so_far) → FolderGoesOn now later
@@ -72,13 +73,13 @@ around_one start folder moments wires = record {
   behind = [];
 }
 
-abbrev pub is_around : {D : Type 0} (start : Began D) (folder : FolderTold) (so_far : SoFar) → HasDone start.settings folder.scanned folder.ended (files_of so_far) → (wires : List WireTold) →
+abbrev pub is_around : {D : Type 0} (start : Began D) (folder : FolderTold) (so_far : SoFar) → HasDone start.settings folder.scanned folder.ended (files_of (opened_once so_far)) → (wires : List WireTold) →
     IsAround (told_scan start folder) (around_one start folder so_far.moments wires)
-is_around start folder so_far done wires = record { goes_on = goes_on_doing start.settings folder.scanned folder.ended so_far done; since = omega arith; until = λ place within. tt }
+is_around start folder so_far done wires = record { goes_on = goes_on_doing start.settings folder.scanned folder.ended (opened_once so_far) done; since = omega arith; until = λ place within. tt }
 
 -- ---- what is known of it
 
-module _ {D : Type 0} (start : Began D) (folder : FolderTold) (has : HasScanned start folder) (so_far : SoFar) (done : HasDone start.settings folder.scanned folder.ended (files_of so_far))
+module _ {D : Type 0} (start : Began D) (folder : FolderTold) (has : HasScanned start folder) (so_far : SoFar) (done : HasDone start.settings folder.scanned folder.ended (files_of (opened_once so_far)))
     (none : so_far.scans ≡ []) (wires : List WireTold) where
   abbrev run : Run
   run = run_of start folder so_far.moments wires

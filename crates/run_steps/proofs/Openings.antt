@@ -2,7 +2,7 @@
 use Rattle.std.proofs.Common.{◌≡◌, ◌⊎◌, inl, inr, ⊎_elim, ℕ, zero, suc, ◌+◌, ◌≤◌, ◌<◌, ◌==◌, Bool, true, false, drop, List, [], ◌∷◌, ◌++◌, Contains, length, append-nil, append_assoc, Option, Some, None, IfSome, refl, sym, ap, subst, ◌∙◌, arith, if◌then◌else◌}
 use Rattle.std.proofs.lemmas.Bool.{eqb-true}
 use Rattle.std.proofs.lemmas.List.{drop-append-le, length-append, map-append}
-use Rattle.std.proofs.lemmas.List.Elements.{Contains-append_left, Contains-append_right}
+use Rattle.std.proofs.lemmas.List.Elements.{Contains-append_cases, Contains-append_left, Contains-append_right}
 use Rattle.std.proofs.lemmas.Option.{slice_get_within}
 use Rattle.std.specs.Prelude.{slice_get}
 use Rattle.std.specs.List.{AllByRecursion}
@@ -13,7 +13,6 @@ use Rattle.file_identity.specs.AskedAgain.{IsRead}
 use Rattle.kept_rows.specs.Scans.{AreDistinct}
 use Rattle.kept_rows.specs.Trace.{Closing, closing_by, closing_in, first_of_two}
 use Rattle.kept_rows.proofs.Acknowledging.{got_in_front}
-use Rattle.kept_rows.proofs.Showing.{both}
 use Rattle.outside.specs.Folders.{Closed, Event, FolderHistory, NotThere, Opened, OpeningFailed}
 use Rattle.outside.specs.Tails.{TailHistory}
 use Rattle.outside.specs.declared.history.Look.{Look}
@@ -23,9 +22,10 @@ use Rattle.told_scans.proofs.ScanAdds.{closes_another}
 use Rattle.told_scans.proofs.ToldScans.{nothing_appended}
 use Rattle.told_scans.specs.ToldScans.{AreToldFrom}
 use Rattle.told_scans.specs.OnlyAsked.{IsNoListing, WasClosedWith, WasOnlyAsked}
-use Rattle.run_steps.specs.Shown.{HasDone, IsStillOpen, IsTurnedIn, WasOpenedSince, openings_of}
+use Rattle.run_steps.specs.Shown.{HasDone, IsStillOpen, IsTurnedIn, WasClosedAs, WasOpenedSince, openings_of}
 use Rattle.run_steps.specs.LaterScans.{LaterScan, told_in}
-use Rattle.run_steps.specs.SoFar.{Left, SoFar, files_of}
+use Rattle.run_steps.specs.SoFar.{Earlier, FilesSoFar, Left, SoFar, files_of, opened_before, openings_within}
+use Rattle.accounts.proofs.Grounded.{each_member}
 use Rattle.accounts.proofs.Orderly.{member_is}
 use Rattle.run_steps.proofs.Closing.{closes_its}
 use Rattle.told_scans.proofs.Events.{got_at_end}
@@ -100,10 +100,6 @@ distinct_then (first ∷ xs) x apart less = (
 
 -- ---- the folder's list with more behind it
 
--- its tail was closed with what it told
-abbrev pub IsClosedIn : FolderHistory → Left → Type 0
-IsClosedIn told one = IfSome one.told (λ tail. WasClosedWith told tail.opening tail.looks)
-
 abbrev pub with_more : FolderHistory → List Event → FolderHistory
 with_more now more = record { files = now.files; events = now.events ++ more }
 
@@ -116,7 +112,7 @@ pub record Adds (now : FolderHistory) (more : List Event) (news : List OpenedFil
   pub serve : (place : ℕ) (path : List ℕ) (number : ℕ) (begun : Sight) → slice_get more place ≡ Some (Opened path number begun) →
       Contains (openings_of news) (length now.events + place) ⊎ WasOnlyAsked (with_more now more) (length now.events + place)
 
-openings_below : (before now : FolderHistory) (files : List OpenedFile) → AllByRecursion (WasOpenedSince before now) files → (opening : ℕ) → Contains (openings_of files) opening → opening < length now.events
+pub openings_below : (before now : FolderHistory) (files : List OpenedFile) → AllByRecursion (WasOpenedSince before now) files → (opening : ℕ) → Contains (openings_of files) opening → opening < length now.events
 openings_below before now [] each opening there = absurd (none_there opening there)
 openings_below before now (one ∷ files) each opening there = from (there_cases one.opening opening (openings_of files) there) (openings_below before now files each.1 opening)
   where
@@ -126,7 +122,8 @@ openings_below before now (one ∷ files) each opening there = from (there_cases
 
 pub below_all : (settings : Settings) (before now : FolderHistory) (so_far : SoFar) → HasDone settings before now (files_of so_far) → (one : OpenedFile) → Contains so_far.opened one → one.opening < length now.events
 below_all settings before now so_far done one there =
-    slice_get_within now.events one.opening (Opened one.begin.path one.number one.begun) (member_is (WasOpenedSince before now) so_far.opened one done.opened there).stands
+    slice_get_within now.events one.opening (Opened one.begin.path one.number one.begun) (member_is (WasOpenedSince before now) (openings_within (files_of so_far)) one done.opened
+    (Contains-append_right (opened_before so_far.earlier) so_far.opened one there)).stands
 
 module _ (settings : Settings) (before now : FolderHistory) (so_far : SoFar) (done : HasDone settings before now (files_of so_far)) (more : List Event) where
   pub closed_stays : (opening : ℕ) (looks : List Look) → WasClosedWith now opening looks → WasClosedWith (with_more now more) opening looks
@@ -142,13 +139,17 @@ module _ (settings : Settings) (before now : FolderHistory) (so_far : SoFar) (do
   still_stays opening less none is_open =
       ap (λ (l : List Event). closing_in opening l) (drop-append-le (suc opening) now.events more less) ∙ none_in_both opening (drop (suc opening) now.events) more is_open none
 
-  pub left_stays : (left : List Left) → AllByRecursion (IsClosedIn now) left → AllByRecursion (IsClosedIn (with_more now more)) left
+  pub left_stays : (left : List Left) → AllByRecursion (WasClosedAs now) left → AllByRecursion (WasClosedAs (with_more now more)) left
   left_stays [] each = tt
   left_stays (one ∷ left) each = (go one.told each.0, left_stays left each.1)
     where
       go : (told : Option TailHistory) → IfSome told (λ tail. WasClosedWith now tail.opening tail.looks) → IfSome told (λ tail. WasClosedWith (with_more now more) tail.opening tail.looks)
       go None was = tt
       go (Some tail) was = closed_stays tail.opening tail.looks was
+
+  pub earlier_stays : (earlier : List Earlier) → AllByRecursion (λ (e : Earlier). WasClosedAs now e.left) earlier → AllByRecursion (λ (e : Earlier). WasClosedAs (with_more now more) e.left) earlier
+  earlier_stays [] each = tt
+  earlier_stays (one ∷ earlier) each = ((left_stays (one.left ∷ []) (each.0, tt)).0, earlier_stays earlier each.1)
 
   pub opened_stays : (files : List OpenedFile) → AllByRecursion (WasOpenedSince before now) files → AllByRecursion (WasOpenedSince before (with_more now more)) files
   opened_stays files each = each_then (WasOpenedSince before now) (WasOpenedSince before (with_more now more)) files
@@ -161,58 +162,79 @@ module _ (settings : Settings) (before now : FolderHistory) (so_far : SoFar) (do
   longer : length before.events ≤ length now.events
   longer = let is = ap (λ (l : List Event). length l) done.events ∙ length-append before.events done.more in omega (arith, is)
 
+  abbrev pub all_opened : List OpenedFile
+  all_opened = openings_within (files_of so_far)
+
   module _ (news : List OpenedFile) (adds : Adds now more news) where
     news_stand : AllByRecursion (WasOpenedSince before (with_more now more)) news
     news_stand = each_then (WasOpenedSince now (with_more now more)) (WasOpenedSince before (with_more now more)) news
         (λ one was. record { since = omega (arith, was.since, longer); stands = was.stands; file_is = was.file_is }) adds.stand
 
-    openings_are : openings_of (so_far.opened ++ news) ≡ openings_of so_far.opened ++ openings_of news
-    openings_are = map-append (λ (one : OpenedFile). one.opening) so_far.opened news
-
     serve : (opening : ℕ) (path : List ℕ) (number : ℕ) (begun : Sight) → length before.events ≤ opening → slice_get (now.events ++ more) opening ≡ Some (Opened path number begun) →
-        Contains (openings_of so_far.opened ++ openings_of news) opening ⊎ WasOnlyAsked (with_more now more) opening
+        (Contains (openings_of all_opened) opening ⊎ Contains (openings_of news) opening) ⊎ WasOnlyAsked (with_more now more) opening
     serve opening path number begun least is = from (got_cases now.events more opening (Opened path number begun) is)
       where
-        old : Contains (openings_of so_far.opened) opening ⊎ WasOnlyAsked now opening → Contains (openings_of so_far.opened ++ openings_of news) opening ⊎ WasOnlyAsked (with_more now more) opening
-        old (inl there) = inl (Contains-append_left (openings_of so_far.opened) (openings_of news) opening there)
-        old (inr was) = inr (only_asked_stays opening was)
-
         new : (place : ℕ) → opening ≡ length now.events + place → Contains (openings_of news) (length now.events + place) ⊎ WasOnlyAsked (with_more now more) (length now.events + place) →
-            Contains (openings_of so_far.opened ++ openings_of news) opening ⊎ WasOnlyAsked (with_more now more) opening
-        new place at (inl there) = inl (subst (λ (n : ℕ). Contains (openings_of so_far.opened ++ openings_of news) n) (sym at)
-            (Contains-append_right (openings_of so_far.opened) (openings_of news) (length now.events + place) there))
+            (Contains (openings_of all_opened) opening ⊎ Contains (openings_of news) opening) ⊎ WasOnlyAsked (with_more now more) opening
+        new place at (inl there) = inl (inr (subst (λ (n : ℕ). Contains (openings_of news) n) (sym at) there))
         new place at (inr was) = inr (subst (λ (n : ℕ). WasOnlyAsked (with_more now more) n) (sym at) was)
 
         from : (slice_get now.events opening ≡ Some (Opened path number begun)) ⊎ StandsBehind now.events more opening (Opened path number begun) →
-            Contains (openings_of so_far.opened ++ openings_of news) opening ⊎ WasOnlyAsked (with_more now more) opening
-        from (inl there) = old (done.serve opening path number begun least there)
+            (Contains (openings_of all_opened) opening ⊎ Contains (openings_of news) opening) ⊎ WasOnlyAsked (with_more now more) opening
+        from (inl there) = ⊎_elim (λ old. inl (inl old)) (λ was. inr (only_asked_stays opening was)) (done.serve opening path number begun least there)
         from (inr of) = new of.place of.at (adds.serve of.place path number begun of.stands)
 
-    pub done_on : (after : SoFar) → after.scans ≡ so_far.scans → after.opened ≡ so_far.opened ++ news → AreDistinct (openings_of so_far.opened ++ openings_of news) →
-        AllByRecursion (IsClosedIn (with_more now more)) after.left → ((one : OpenedFile) → Contains (so_far.opened ++ news) one → IsTurnedIn (files_of after) one → IsStillOpen (with_more now more) one.opening) →
-        HasDone settings before (with_more now more) (files_of after)
-    done_on after scans_are opened_are apart closed still = record {
+    -- the openings are those, in whichever order
+    pub record AreThose (after : FilesSoFar) : Type 0 where
+      pub scans_are : after.scans ≡ so_far.scans
+      pub opened : (one : OpenedFile) → Contains (openings_within after) one → Contains all_opened one ⊎ Contains news one
+      pub there : (opening : ℕ) → Contains (openings_of all_opened) opening ⊎ Contains (openings_of news) opening → Contains (openings_of (openings_within after)) opening
+      pub apart : AreDistinct (openings_of (openings_within after))
+
+    pub done_on : (after : FilesSoFar) → AreThose after → AllByRecursion (WasClosedAs (with_more now more)) after.left →
+        AllByRecursion (λ (e : Earlier). WasClosedAs (with_more now more) e.left) after.earlier →
+        ((one : OpenedFile) → Contains after.opened one → IsTurnedIn after one → IsStillOpen (with_more now more) one.opening) → HasDone settings before (with_more now more) after
+    done_on after are closed closed_before still = record {
       files = done.files;
       more = done.more ++ more;
       events = ap (λ (l : List Event). l ++ more) done.events ∙ append_assoc before.events done.more more;
-      scans = subst (λ (scans : List LaterScan). AreToldFrom settings before (told_in scans) (with_more now more)) (sym scans_are)
+      scans = subst (λ (scans : List LaterScan). AreToldFrom settings before (told_in scans) (with_more now more)) (sym are.scans_are)
           (nothing_appended settings before (told_in so_far.scans) now (with_more now more) done.scans
           (record { files = refl; more = more; events = refl; no_listing = adds.no_listing }));
-      opened = subst (AllByRecursion (WasOpenedSince before (with_more now more))) (sym opened_are)
-          (both (WasOpenedSince before (with_more now more)) so_far.opened news (opened_stays so_far.opened done.opened) news_stand);
-      apart = subst AreDistinct (sym (ap openings_of opened_are ∙ openings_are)) apart;
-      serve = λ opening path number begun least is. subst (λ (l : List ℕ). Contains l opening ⊎ WasOnlyAsked (with_more now more) opening) (sym (ap openings_of opened_are ∙ openings_are))
-          (serve opening path number begun least is);
+      opened = each_member (WasOpenedSince before (with_more now more)) (openings_within after) (λ one there.
+          ⊎_elim (member_is (WasOpenedSince before (with_more now more)) all_opened one (opened_stays all_opened done.opened)) (member_is (WasOpenedSince before (with_more now more)) news one news_stand)
+          (are.opened one there));
+      apart = are.apart;
+      serve = λ opening path number begun least is. ⊎_elim (λ there. inl (are.there opening there)) inr (serve opening path number begun least is);
       closed = closed;
-      still_open = λ one there turned. still one (subst (λ (l : List OpenedFile). Contains l one) opened_are there) turned;
+      closed_before = closed_before;
+      still_open = still;
     }
 
-  pub apart_with : (one : OpenedFile) → one.opening ≡ length now.events → AreDistinct (openings_of so_far.opened ++ openings_of (one ∷ []))
-  apart_with one at = distinct_then (openings_of so_far.opened) one.opening done.apart
-      (λ opening there. let less = openings_below before now so_far.opened done.opened opening there in omega (arith, less, at))
+    -- they are appended
+    pub are_appended : (after : FilesSoFar) → after.scans ≡ so_far.scans → after.earlier ≡ so_far.earlier → after.opened ≡ so_far.opened ++ news →
+        AreDistinct (openings_of all_opened ++ openings_of news) → AreThose after
+    are_appended after scans_are earlier_are opened_are apart = record {
+      scans_are = scans_are;
+      opened = λ one there. Contains-append_cases all_opened news one (subst (λ (l : List OpenedFile). Contains l one) within_are there);
+      there = λ opening there. subst (λ (l : List ℕ). Contains l opening) (sym numbers_are)
+          (⊎_elim (Contains-append_left (openings_of all_opened) (openings_of news) opening) (Contains-append_right (openings_of all_opened) (openings_of news) opening) there);
+      apart = subst AreDistinct (sym numbers_are) apart;
+    }
+      where
+        within_are : openings_within after ≡ all_opened ++ news
+        within_are = ap (λ (earlier : List Earlier). opened_before earlier ++ after.opened) earlier_are ∙ ap (λ (l : List OpenedFile). opened_before so_far.earlier ++ l) opened_are
+            ∙ sym (append_assoc (opened_before so_far.earlier) so_far.opened news)
 
-  pub apart_without : AreDistinct (openings_of so_far.opened ++ [])
-  apart_without = subst AreDistinct (sym (append-nil (openings_of so_far.opened))) done.apart
+        numbers_are : openings_of (openings_within after) ≡ openings_of all_opened ++ openings_of news
+        numbers_are = ap openings_of within_are ∙ map-append (λ (one : OpenedFile). one.opening) all_opened news
+
+  pub apart_with : (one : OpenedFile) → one.opening ≡ length now.events → AreDistinct (openings_of all_opened ++ openings_of (one ∷ []))
+  apart_with one at = distinct_then (openings_of all_opened) one.opening done.apart
+      (λ opening there. let less = openings_below before now all_opened done.opened opening there in omega (arith, less, at))
+
+  pub apart_without : AreDistinct (openings_of all_opened ++ [])
+  apart_without = subst AreDistinct (sym (append-nil (openings_of all_opened))) done.apart
 
 -- ---- what is added
 

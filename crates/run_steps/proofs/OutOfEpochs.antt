@@ -1,6 +1,6 @@
 -- A run that ended for want of epochs read a file that kept its key at each fall of its length, and whose first epoch and these falls are
 -- one above the last epoch.
-use Rattle.std.proofs.Common.{◌≡◌, inl, inr, ℕ, ◌+◌, ◌≤◌, List, [], ◌∷◌, ◌++◌, Contains, length, map, Option, Some, None, IsSome, IfSome, refl, sym, ap, subst, ◌∙◌, arith, false}
+use Rattle.std.proofs.Common.{◌≡◌, inl, inr, ℕ, ◌+◌, ◌≤◌, List, [], ◌∷◌, ◌++◌, Contains, length, map, Option, Some, None, IsSome, IfSome, refl, sym, ap, subst, ◌∙◌, arith, false, true}
 use Rattle.std.specs.Prelude.{slice_get}
 use Rattle.std.specs.List.{AllByRecursion}
 use Rattle.accounts.proofs.Askings.{asking_reads}
@@ -30,7 +30,7 @@ use Rattle.wire_base.specs.declared.numbers.Slot.{Slot}
 use Rattle.run_steps.specs.Began.{Began}
 use Rattle.run_steps.specs.BeginFor.{start_among}
 use Rattle.run_steps.specs.Begun.{IsKeyed, IsOpenedAsListed}
-use Rattle.run_steps.specs.Ends.{Ending}
+use Rattle.run_steps.specs.Ends.{Ending, with_crew}
 use Rattle.run_steps.specs.LastEpoch.{IsLastOver, HaveOneOver, RanOutOfEpochs, falls_in}
 use Rattle.run_steps.specs.Releasing.{HasNoHarvesters}
 use Rattle.run_steps.specs.RunEnds.{HasEnded}
@@ -38,10 +38,12 @@ use Rattle.run_steps.specs.RunState.{Phase}
 use Rattle.told_scans.specs.OnlyAsked.{WasClosedWith}
 use Rattle.run_steps.specs.Shown.{HasDone, HasShown, WasOpenedSince}
 use Rattle.run_steps.specs.SoFar.{Left, SoFar, files_in, files_of}
-use Rattle.run_steps.specs.Stands.{IsLeftSo, watch_of}
+use Rattle.run_steps.specs.Stands.{IsLeftSo, watch_of, Stands}
 use Rattle.run_steps.specs.declared.met.Met.{Met}
 use Rattle.run_steps.specs.declared.met.Met.TheVariants.{Epochs}
 use Rattle.told_scans.proofs.Members.{each_of, some_is}
+use Rattle.run_steps.proofs.EarlierOn.{opened_once}
+use Rattle.run_steps.proofs.OpenedOnce.{stands_once}
 use Rattle.run_steps.proofs.FallsCounted.{falls_are, unanswered_at}
 use Rattle.run_steps.proofs.RunFiles.{none_turned}
 use Rattle.accounts.proofs.Orderly.{member_is}
@@ -73,33 +75,36 @@ found P f (x ∷ xs) (inr later) = let of = found P f xs later in record { one =
 -- ---- at the end of the run
 
 module _ {T W L D : Type 0} (words : Words T W L D) (start : Began D) (ending : Ending D) (met : Met) (unused wires : List W) (ended : HasEnded words start ending met unused wires)
-    (slot : Slot) (is_out : met ≡ Epochs slot) where
+    (once : start.once ≡ true) (slot : Slot) (is_out : met ≡ Epochs slot) where
   abbrev so_far : SoFar
-  so_far = ended.ends.so_far
+  so_far = opened_once ended.ends.so_far
+
+  stands : Stands words start (with_crew ending ended.ends.crew) so_far
+  stands = stands_once words start (with_crew ending ended.ends.crew) ended.ends.so_far once ended.ends.stands
 
   -- each tail was closed
   all_left : files_in so_far ≡ map (λ (one : Left). one.turned) so_far.left
   all_left =
       ap (λ (l : List Turned). l ++ map (λ (one : Left). one.turned) so_far.left)
-      (none_turned words.tails (watch_of start so_far.scans) so_far.opened so_far.moments so_far.lanes (lanings ended.ends.crew.lanes.items) ended.ends.stands.files.turned
+      (none_turned words.tails (watch_of start so_far.scans) so_far.opened so_far.moments so_far.lanes (lanings ended.ends.crew.lanes.items) stands.files.turned
       (each_of HasNoHarvesters (lanings ended.ends.crew.lanes.items) ended.left.released))
 
   last_over : Found (IsLastOver slot) (λ (one : Left). one.turned) so_far.left
   last_over =
       found (IsLastOver slot) (λ (one : Left). one.turned) so_far.left
-      (subst (SomeOf (IsLastOver slot)) all_left (subst (λ (p : Phase). HaveOneOver p (files_in so_far)) (ended.ends.out_of_epochs slot is_out) ended.ends.stands.files.over))
+      (subst (SomeOf (IsLastOver slot)) all_left (subst (λ (p : Phase). HaveOneOver p (files_in so_far)) (ended.ends.out_of_epochs slot is_out) stands.files.over))
 
   abbrev left : Left
   left = last_over.one
 
   is_left : IsLeftSo (watch_of start so_far.scans) so_far.opened so_far.moments left
-  is_left = member_is (IsLeftSo (watch_of start so_far.scans) so_far.opened so_far.moments) so_far.left left ended.ends.stands.files.left last_over.among
+  is_left = member_is (IsLeftSo (watch_of start so_far.scans) so_far.opened so_far.moments) so_far.left left stands.files.left last_over.among
 
   abbrev file : Opened
   file = is_left.file
 
   as_listed : IsOpenedAsListed start.settings start.opening start.listed file
-  as_listed = member_is (IsOpenedAsListed start.settings start.opening start.listed) so_far.opened file ended.ends.stands.files.opened is_left.among
+  as_listed = member_is (IsOpenedAsListed start.settings start.opening start.listed) so_far.opened file stands.files.opened is_left.among
 
   slot_is : file.begin.slot ≡ slot
   slot_is = sym is_left.is_told.slot ∙ last_over.is.of_slot
@@ -126,7 +131,7 @@ module _ {T W L D : Type 0} (words : Words T W L D) (start : Began D) (ending : 
 
       only_asked : AllByRecursion (λ (look : Look). IsRead look.question) h.before
       only_asked = subst (AllByRecursion (λ (look : Look). IsRead look.question)) (sym told.history.asked_before)
-          (asking_reads file.rule.file_identity file.asked (member_is IsKeyed so_far.opened file (ended.ends.stands.files.keyed tells) is_left.among).asking)
+          (asking_reads file.rule.file_identity file.asked (member_is IsKeyed so_far.opened file (stands.files.keyed tells) is_left.among).asking)
 
       -- each epoch was begun by a fall, and there was one more
       falls : falls_in file.begin.base tail.looks ≡ length h.past + 1
@@ -156,7 +161,7 @@ module _ {T W L D : Type 0} (words : Words T W L D) (start : Began D) (ending : 
           (file_is_read (watch_of start so_far.scans) file so_far.moments left.turned tail keyed told).kept
         where
           keyed : IsKeyed file
-          keyed = member_is IsKeyed so_far.opened file (ended.ends.stands.files.keyed tells) is_left.among
+          keyed = member_is IsKeyed so_far.opened file (stands.files.keyed tells) is_left.among
 
           keeps : has_lost_key left.turned.history ≡ false
           keeps = ap (λ (s : Stage). loses_key_at s left.turned.history.rule.file_identity) last_over.is.over
@@ -190,7 +195,7 @@ module _ {T W L D : Type 0} (words : Words T W L D) (start : Began D) (ending : 
 
     ran_out : RanOutOfEpochs start.settings.inputs start.opening one before after
     ran_out =
-        by_told left.told (member_is (λ (l : Left). IsSome l.told) so_far.left left (ended.ends.stands.files.left_tell tells) last_over.among) is_left.is_told
+        by_told left.told (member_is (λ (l : Left). IsSome l.told) so_far.left left (stands.files.left_tell tells) last_over.among) is_left.is_told
         (member_is (λ (l : Left). IfSome l.told (λ tail. WasClosedWith after tail.opening tail.looks)) so_far.left left done.closed last_over.among)
 
   -- by what the folder told behind the scan, and at the end
@@ -198,4 +203,4 @@ module _ {T W L D : Type 0} (words : Words T W L D) (start : Began D) (ending : 
       RanOutOfEpochs start.settings.inputs start.opening one before after
   has_run_out before after told tells one there =
       ran_out before after (subst (λ (o : Option FolderHistory). IsSome o) (sym told) refl)
-      (subst (λ (o : Option FolderHistory). HasShown start.settings (Some before) o (files_of so_far)) tells (subst (λ (o : Option FolderHistory). HasShown start.settings o ending.shown (files_of so_far)) told ended.ends.stands.files.shown)) one there
+      (subst (λ (o : Option FolderHistory). HasShown start.settings (Some before) o (files_of so_far)) tells (subst (λ (o : Option FolderHistory). HasShown start.settings o ending.shown (files_of so_far)) told stands.files.shown)) one there

@@ -39,6 +39,7 @@ use Rattle.run_steps.specs.RunState.{RunState}
 use Rattle.run_steps.specs.Scanned.{HasScanned}
 use Rattle.run_steps.specs.SoFar.{Left, SoFar}
 use Rattle.run_steps.specs.Stands.{IsLeftSo, MayTell, Stands, watch_of}
+use Rattle.run_steps.proofs.EarlierOn.{opened_once}
 use Rattle.run_steps.proofs.InEpochs.{each_there}
 use Rattle.run_steps.proofs.OutOfEpochs.{present_epoch}
 use Rattle.run_steps.proofs.RunFiles.{files, files_are, is_followed, is_joined}
@@ -171,7 +172,7 @@ module _ (run : Run) (placed : Parcel → Option Place) (file : Filed) (followed
 
 -- ---- the files of a run
 
-module _ {T W L D : Type 0} (words : Words T W L D) (start : Began D) (state : RunState T W L D) (so_far : SoFar) (stands : Stands words start state so_far)
+module _ {T W L D : Type 0} (words : Words T W L D) (start : Began D) (state : RunState T W L D) (so_far : SoFar) (stands : Stands words start state (opened_once so_far))
     (released : All HasNoHarvesters (lanings state.crew.lanes.items)) (folder : FolderTold) (has : HasScanned start folder) (shown : state.shown ≡ Some folder.ended)
     (wires : List WireTold) (placed : Parcel → Option Place) (file : Filed) (among : Contains (files words start state so_far stands released folder has shown wires) file) where
   abbrev the_run : Run

@@ -59,6 +59,7 @@ use Rattle.told_scans.proofs.TriedAskings.{distinct_both, openings_asked}
 use Rattle.told_scans.proofs.Members.{each_of}
 use Rattle.prospect.proofs.Doubled.{keys_apart as files_keys_apart}
 use Rattle.prospect.specs.AskedFiles.{keyed_by}
+use Rattle.run_steps.proofs.EarlierOn.{opened_once}
 use Rattle.run_steps.proofs.Named.{keys_apart}
 use Rattle.told_scans.proofs.FirstPaths.{is_first_path}
 use Rattle.told_scans.proofs.ScanAsked.{in_this_run}
@@ -143,7 +144,7 @@ has_tail : (watch : Watch) (moments : List ℕ) (ended : FolderHistory) (opened 
 has_tail watch moments ended opened turned None tells is closed = absurd (cc)
 has_tail watch moments ended opened turned (Some tail) tells is closed = record { tail = tail; told = is; closed = closed }
 
-module _ {T W L D : Type 0} (words : Words T W L D) (start : Began D) (state : RunState T W L D) (so_far : SoFar) (stands : Stands words start state so_far)
+module _ {T W L D : Type 0} (words : Words T W L D) (start : Began D) (state : RunState T W L D) (so_far : SoFar) (stands : Stands words start state (opened_once so_far))
     (released : All HasNoHarvesters (lanings state.crew.lanes.items)) (folder : FolderTold) (has : HasScanned start folder) (shown : state.shown ≡ Some folder.ended)
     (wires : List WireTold) where
   abbrev run : Run
@@ -161,8 +162,8 @@ module _ {T W L D : Type 0} (words : Words T W L D) (start : Began D) (state : R
   abbrev changed : Opened → ℕ
   changed = moment_listed start.opening start.listed
 
-  pub done : HasDone start.settings folder.scanned folder.ended (files_of so_far)
-  done = subst (λ (o : Option FolderHistory). HasShown start.settings (Some folder.scanned) o (files_of so_far)) shown (subst (λ (o : Option FolderHistory). HasShown start.settings o state.shown (files_of so_far)) has.shown stands.files.shown)
+  pub done : HasDone start.settings folder.scanned folder.ended (files_of (opened_once so_far))
+  done = subst (λ (o : Option FolderHistory). HasShown start.settings (Some folder.scanned) o (files_of (opened_once so_far))) shown (subst (λ (o : Option FolderHistory). HasShown start.settings o state.shown (files_of (opened_once so_far))) has.shown stands.files.shown)
 
   pub none_later : so_far.scans ≡ []
   none_later = stands.files.scans.none_with_once has.once

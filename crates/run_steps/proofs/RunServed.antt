@@ -51,6 +51,7 @@ use Rattle.run_steps.specs.Shown.{HasDone}
 use Rattle.run_steps.specs.SoFar.{SoFar, files_in, files_of}
 use Rattle.run_steps.specs.Stands.{Stands}
 use Rattle.told_scans.proofs.AskedEvents.{AnswerStands, HasAsked, HasMissed}
+use Rattle.run_steps.proofs.EarlierOn.{opened_once}
 use Rattle.run_steps.proofs.Doubles.{double_has_earlier}
 use Rattle.run_steps.proofs.FollowedOrSkipped.{IsSkippedSince, came_so}
 use Rattle.run_steps.proofs.HiddenAmong.{hidden_slots}
@@ -68,7 +69,7 @@ use Rattle.accounts.proofs.Orderly.{member_is}
 got_some : {A : Type 0} (P : A → Type 0) (o : Option A) (x : A) → o ≡ Some x → IfSome o P → P x
 got_some P o x is all = subst (λ (q : Option _). IfSome q P) is all
 
-module _ {T W L D : Type 0} (words : Words T W L D) (start : Began D) (state : RunState T W L D) (so_far : SoFar) (stands : Stands words start state so_far)
+module _ {T W L D : Type 0} (words : Words T W L D) (start : Began D) (state : RunState T W L D) (so_far : SoFar) (stands : Stands words start state (opened_once so_far))
     (released : All HasNoHarvesters (lanings state.crew.lanes.items)) (folder : FolderTold) (has : HasScanned start folder) (shown : state.shown ≡ Some folder.ended)
     (wires : List WireTold) (workers : List Taken) (fits : FitBooks (files_in so_far) workers so_far.collected)
     (passed : List Passing) (served : AreServed start.settings start.opening start.listed passed state.keeper.tracked.notes folder) where
@@ -84,7 +85,7 @@ module _ {T W L D : Type 0} (words : Words T W L D) (start : Began D) (state : R
   abbrev notes : List Note
   notes = state.keeper.tracked.notes
 
-  has_done : HasDone start.settings folder.scanned folder.ended (files_of so_far)
+  has_done : HasDone start.settings folder.scanned folder.ended (files_of (opened_once so_far))
   has_done = done words start state so_far stands released folder has shown wires
 
   abbrev the_scan : ToldScan

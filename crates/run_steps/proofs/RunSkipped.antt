@@ -35,6 +35,7 @@ use Rattle.run_steps.specs.Served.{AreServed, HasBegin, WasSkippedBy, folder_tra
 use Rattle.run_steps.specs.Shown.{WasOpenedSince}
 use Rattle.run_steps.specs.SoFar.{SoFar, files_in}
 use Rattle.run_steps.specs.Stands.{Stands}
+use Rattle.run_steps.proofs.EarlierOn.{opened_once}
 use Rattle.run_steps.proofs.FollowedOrSkipped.{came_so, each_then_so, none_followed}
 use Rattle.run_steps.proofs.HiddenAmong.{each_is_hidden_of}
 use Rattle.told_scans.proofs.Members.{some_is}
@@ -59,7 +60,7 @@ same_place_by_key listed place other one later key apart at there keyed same =
     (λ not_before. ⊎_elim (λ behind. absurd (later_has_other listed other place later one key apart behind there at same keyed)) (λ not_behind. omega (arith, not_before, not_behind)) (cases_lt other place))
     (cases_lt place other)
 
-module _ {T W L D : Type 0} (words : Words T W L D) (start : Began D) (state : RunState T W L D) (so_far : SoFar) (stands : Stands words start state so_far)
+module _ {T W L D : Type 0} (words : Words T W L D) (start : Began D) (state : RunState T W L D) (so_far : SoFar) (stands : Stands words start state (opened_once so_far))
     (released : All HasNoHarvesters (lanings state.crew.lanes.items)) (folder : FolderTold) (has : HasScanned start folder) (shown : state.shown ≡ Some folder.ended)
     (wires : List WireTold) (workers : List Taken) (fits : FitBooks (files_in so_far) workers so_far.collected)
     (passed : List Passing) (served : AreServed start.settings start.opening start.listed passed state.keeper.tracked.notes folder) (placed : Parcel → Option Place) where

@@ -40,11 +40,12 @@ use Rattle.run_steps.specs.Began.{Began}
 use Rattle.run_steps.specs.LaterScans.{AreLaterScans, IsKnownScan, IsNextScan, LaterScan, ScansOn, WasMissed, WasNamed, told_in}
 use Rattle.run_steps.specs.ReadBehind.{ReadsBehind}
 use Rattle.run_steps.specs.RunState.{Phase, RunState}
-use Rattle.run_steps.specs.Shown.{HasDone, HasShown, IsStillOpen, WasOpenedSince, openings_of}
-use Rattle.run_steps.specs.SoFar.{Left, SoFar, files_of}
+use Rattle.run_steps.specs.Shown.{HasDone, HasShown, IsStillOpen, WasClosedAs, WasOpenedSince, openings_of}
+use Rattle.run_steps.specs.SoFar.{Earlier, Left, SoFar, files_of, openings_within}
 use Rattle.run_steps.specs.Stands.{AreTurnedIn, IsLeftRead, IsLeftSo, Stands, watch_of}
 use Rattle.run_steps.proofs.AreRead.{read_still}
-use Rattle.run_steps.proofs.Openings.{IsClosedIn, below_all, left_stays, opened_stays, still_stays, with_more}
+use Rattle.run_steps.proofs.EarlierOn.{earlier_watched}
+use Rattle.run_steps.proofs.Openings.{below_all, earlier_stays, left_stays, opened_stays, still_stays, with_more}
 
 -- ---- what it says of files is said still
 
@@ -121,10 +122,10 @@ module _ {T W L D : Type 0} (words : Words T W L D) (start : Began D) (moments :
         (subst (AreToldFrom start.settings before (told_in so_far.scans)) (sym next.earlier_is) done.scans) next.settings_are next.is))
 
     serve : (opening : ℕ) (path : List ℕ) (number : ℕ) (begun : Sight) → length before.events ≤ opening →
-        slice_get after.events opening ≡ Some (folders.Opened path number begun) → Contains (openings_of so_far.opened) opening ⊎ WasOnlyAsked after opening
+        slice_get after.events opening ≡ Some (folders.Opened path number begun) → Contains (openings_of (openings_within (files_of so_far))) opening ⊎ WasOnlyAsked after opening
     serve opening path number begun since is = by_place (cases_lt opening (length now.events))
       where
-        by_place : (opening < length now.events) ⊎ (length now.events ≤ opening) → Contains (openings_of so_far.opened) opening ⊎ WasOnlyAsked after opening
+        by_place : (opening < length now.events) ⊎ (length now.events ≤ opening) → Contains (openings_of (openings_within (files_of so_far))) opening ⊎ WasOnlyAsked after opening
         by_place (inl within) =
             ⊎_elim inl (λ was. inr (only_asked_still now after on opening within was))
             (done.serve opening path number begun since (event_was now after on opening (folders.Opened path number begun) within is))
@@ -138,10 +139,13 @@ module _ {T W L D : Type 0} (words : Words T W L D) (start : Began D) (moments :
       more = done.more ++ adds.more;
       events = adds.events ∙ ap (λ (l : List Event). l ++ adds.more) done.events ∙ append_assoc before.events done.more adds.more;
       scans = goes_on;
-      opened = subst (λ (h : FolderHistory). AllByRecursion (WasOpenedSince before h) so_far.opened) (sym after_is) (opened_stays start.settings before now so_far done adds.more so_far.opened done.opened);
+      opened = subst (λ (h : FolderHistory). AllByRecursion (WasOpenedSince before h) (openings_within (files_of so_far))) (sym after_is)
+          (opened_stays start.settings before now so_far done adds.more (openings_within (files_of so_far)) done.opened);
       apart = done.apart;
       serve = serve;
-      closed = subst (λ (h : FolderHistory). AllByRecursion (IsClosedIn h) so_far.left) (sym after_is) (left_stays start.settings before now so_far done adds.more so_far.left done.closed);
+      closed = subst (λ (h : FolderHistory). AllByRecursion (WasClosedAs h) so_far.left) (sym after_is) (left_stays start.settings before now so_far done adds.more so_far.left done.closed);
+      closed_before = subst (λ (h : FolderHistory). AllByRecursion (λ (e : Earlier). WasClosedAs h e.left) so_far.earlier) (sym after_is)
+          (earlier_stays start.settings before now so_far done adds.more so_far.earlier done.closed_before);
       still_open = λ one among turned.
           let below = below_all start.settings before now so_far done one among in
           subst (λ (h : FolderHistory). IsStillOpen h one.opening) (sym after_is)
@@ -219,6 +223,10 @@ module _ {T W L D : Type 0} (words : Words T W L D) (start : Began D) (moments :
         each_lane (ts ∷ files) [] pairs = absurd pairs
         each_lane (ts ∷ files) (lane ∷ lanes) pairs = (each_one ts lane.harvesters pairs.0, each_lane files lanes pairs.1)
 
+    may : (opened : Opened) → MayFindEnd (watch_of start so_far.scans) opened → MayFindEnd (watch_of start scanned_too.scans) opened
+    may opened (inl once) = inl once
+    may opened (inr removed) = inr (missed_on so_far.scans scan opened removed)
+
     left : AllByRecursion (IsLeftSo (watch_of start scanned_too.scans) so_far.opened so_far.moments) so_far.left
     left = each_then (IsLeftSo (watch_of start so_far.scans) so_far.opened so_far.moments) (IsLeftSo (watch_of start scanned_too.scans) so_far.opened so_far.moments) so_far.left
         (λ one so. record {
@@ -228,19 +236,18 @@ module _ {T W L D : Type 0} (words : Words T W L D) (start : Began D) (moments :
               (named_on so_far.scans scan so.file) (may so.file) so.is_told;
           in_epochs = so.in_epochs;
         }) stands.files.left
-      where
-        may : (opened : Opened) → MayFindEnd (watch_of start so_far.scans) opened → MayFindEnd (watch_of start scanned_too.scans) opened
-        may opened (inl once) = inl once
-        may opened (inr removed) = inr (missed_on so_far.scans scan opened removed)
 
     pub stands_scanned : Stands words start (at later) scanned_too
     stands_scanned = record {
       files = record {
         opened = stands.files.opened;
+        ruled = stands.files.ruled;
         keyed = stands.files.keyed;
         each_once = stands.files.each_once;
         turned = turned;
         left = left;
+        earlier = earlier_watched (watch_of start so_far.scans) (watch_of start scanned_too.scans) start.shown so_far.opened so_far.moments so_far.earlier refl refl (named_on so_far.scans scan) may
+            stands.files.earlier;
         reading = λ is. let was = stands.files.reading is in record { none_left = was.none_left; none_over = was.none_over };
         finished = stands.files.finished;
         over = stands.files.over;

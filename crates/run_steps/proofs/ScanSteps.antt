@@ -31,6 +31,7 @@ use Rattle.run_steps.proofs.Clocks.{clock_stays}
 use Rattle.run_steps.proofs.FailingRounds.{fail_by_nothing}
 use Rattle.run_steps.proofs.Giving.{GivenOn, given_on}
 use Rattle.run_steps.proofs.Lanes.{lanes_later}
+use Rattle.run_steps.proofs.EarlierOn.{earlier_later}
 use Rattle.run_steps.proofs.LaterScans.{scans_on}
 use Rattle.run_steps.proofs.ReadersGo.{rose_on}
 use Rattle.run_steps.proofs.ScanStands.{stands_scanned}
@@ -68,6 +69,7 @@ module _ {T W L D : Type 0} (words : Words T W L D) (start : Began D) (moments :
     stands = record {
       files = record {
         opened = stands.files.opened;
+        ruled = stands.files.ruled;
         keyed = stands.files.keyed;
         each_once = stands.files.each_once;
         turned = lanes_later words.tails (watch_of start so_far.scans) so_far.opened so_far.moments given.more so_far.lanes (lanings crew.lanes.items) stands.files.turned;
@@ -78,6 +80,7 @@ module _ {T W L D : Type 0} (words : Words T W L D) (start : Began D) (moments :
               is_told = told_later (watch_of start so_far.scans) so.file so_far.moments given.more one.turned one.told so.is_told;
               in_epochs = so.in_epochs;
             }) stands.files.left;
+        earlier = earlier_later (watch_of start so_far.scans) start.shown so_far.opened so_far.moments given.more so_far.earlier stands.files.earlier;
         reading = λ is. let was = stands.files.reading is in record { none_left = was.none_left; none_over = was.none_over };
         finished = stands.files.finished;
         over = stands.files.over;
@@ -111,6 +114,7 @@ module _ {T W L D : Type 0} (words : Words T W L D) (start : Began D) (moments :
         apart = is.apart;
         serve = is.serve;
         closed = is.closed;
+        closed_before = is.closed_before;
         still_open = is.still_open;
       }
 

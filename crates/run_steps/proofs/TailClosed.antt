@@ -1,7 +1,7 @@
 -- Tails that are closed keep what stands of a run: their files are left, with what the tails told.
 use Rattle.std.proofs.Common.{◌≡◌, ◌≢◌, ◌⊎◌, inl, inr, ⊎_elim, ℕ, zero, suc, ◌+◌, ◌≤◌, ◌<◌, ◌^◌, ◌-◌, false, drop, List, [], ◌∷◌, ◌++◌, Contains, length, map, append_assoc, Option, Some, None, IsSome, IfSome, refl, sym, ap, subst, ◌∙◌, arith}
 use Rattle.std.proofs.lemmas.List.{map-append}
-use Rattle.std.proofs.lemmas.List.Elements.{Contains-append_left}
+use Rattle.std.proofs.lemmas.List.Elements.{Contains-append_left, Contains-append_right}
 use Rattle.std.specs.Prelude.{slice_get}
 use Rattle.std.specs.List.{AllByRecursion, flat_map}
 use Rattle.accounts.specs.FollowedFile.{MayReopenAt}
@@ -41,6 +41,7 @@ use Rattle.wire_base.specs.declared.note.Note.{Note}
 use Rattle.wire_base.specs.declared.numbers.Slot.{Slot}
 use Rattle.run_steps.specs.Began.{Began}
 use Rattle.run_steps.specs.Begun.{AreSlotsFrom}
+use Rattle.run_steps.specs.Earlier.{IsEarlierSo}
 use Rattle.run_steps.specs.ClosesTail.{ClosesTail, ClosesTails, LetsGoAt, Readers}
 use Rattle.run_steps.specs.LastEpoch.{AreToldInEpochs, HasAnswered, HaveOneOver, IsAnswered, IsLastOver}
 use Rattle.run_steps.specs.Looking.{HasLooked, SomeHasLooked}
@@ -50,8 +51,8 @@ use Rattle.run_steps.specs.RunState.{Finished, Halted, Leaving, OutOfEpochs, Pha
 use Rattle.told_scans.specs.OnlyAsked.{IsNoListing, WasClosedWith, WasOnlyAsked}
 use Rattle.told_scans.proofs.ToldScans.{nothing_appended}
 use Rattle.run_steps.specs.LaterScans.{told_in}
-use Rattle.run_steps.specs.Shown.{HasDone, HasShown, IsStillOpen, WasOpenedSince, openings_of}
-use Rattle.run_steps.specs.SoFar.{FilesSoFar, Left, SoFar, books_of, files_in, files_of, files_within, notes_of}
+use Rattle.run_steps.specs.Shown.{HasDone, HasShown, IsStillOpen, WasClosedAs, WasOpenedSince, openings_of}
+use Rattle.run_steps.specs.SoFar.{Earlier, FilesSoFar, Left, SoFar, all_told, books_of, files_in, files_of, files_within, notes_of, opened_before, openings_within, told_before}
 use Rattle.run_steps.specs.Stands.{AreAnswered, AreEachOnce, Books, BooksNow, Files, FilesNow, HaveGiven, IsLeftRead, IsLeftSo, MayTell, ReadsYet, watch_of}
 use Rattle.run_steps.proofs.AreRead.{read_now, read_still}
 use Rattle.run_steps.proofs.Admitting.{booked_by, often_mapped, placed_by, spans_often}
@@ -87,7 +88,7 @@ rising_once least (one ∷ opened) rise =
     once_more same_slot tells_slots one.begin.slot (slots_in opened)
     (λ there. let more = not_below (one.begin.slot.0 + 1) opened one.begin.slot rise.1 there in omega (arith, more)) (rising_once (one.begin.slot.0 + 1) opened rise.1)
 
-files_once : (opened : List Opened) (files : List Turned) → AreEachOnce opened files → AreOnce same_slot (slots_of files)
+pub files_once : (opened : List Opened) (files : List Turned) → AreEachOnce opened files → AreOnce same_slot (slots_of files)
 files_once opened files once = once_often same_slot tells_slots (slots_in opened) (slots_of files) (often_back (slots_of files) (slots_in opened) once.are) (rising_once 0 opened once.rise)
 
 -- of one opening there is one
@@ -194,6 +195,9 @@ module _ {T W L D : Type 0} (words : Words T W L D) (start : Began D) (moments :
         weigh-append h (turned_in so_far.left) (file ∷ []),
       )
 
+      same_all : AsOften (all_told so_far) (all_told after)
+      same_all h = omega (arith, same_files h, weigh-append h (told_before so_far.earlier) (files_in so_far), weigh-append h (told_before so_far.earlier) (files_in after))
+
       each_once : AreEachOnce so_far.opened (files_in after)
       each_once = record {
         rise = reads.files.each_once.rise;
@@ -267,7 +271,8 @@ module _ {T W L D : Type 0} (words : Words T W L D) (start : Began D) (moments :
         -- an opening stands within the list so far
         stands_within : (opened : Opened) → Contains so_far.opened opened → opened.opening < length now.events
         stands_within opened among =
-            got_within now.events opened.opening (folders.Opened opened.begin.path opened.number opened.begun) (member_is (WasOpenedSince first now) so_far.opened opened done.opened among).stands
+            got_within now.events opened.opening (folders.Opened opened.begin.path opened.number opened.begun) (member_is (WasOpenedSince first now) (openings_within (files_of so_far)) opened done.opened
+            (Contains-append_right (opened_before so_far.earlier) so_far.opened opened among)).stands
 
         no_listings : (tells : Option TailHistory) → AllByRecursion IsNoListing (events tells)
         no_listings None = tt
@@ -279,18 +284,26 @@ module _ {T W L D : Type 0} (words : Words T W L D) (start : Began D) (moments :
             (there_cases (Closed tail.opening tail.looks faults) (folders.Opened path number begun) [] there)
 
         -- one that was closed stays so
-        closed_before : (tells : Option TailHistory) (l : Left) → Contains so_far.left l → IfSome l.told (λ tail. WasClosedWith (then_told tells) tail.opening tail.looks)
-        closed_before tells l there = by_case l.told refl
+        closed_as_before : (tells : Option TailHistory) (l : Left) (file : Opened) → Contains (openings_within (files_of so_far)) file → IfSome l.told (IsTailOf file) → WasClosedAs now l → WasClosedAs (then_told tells) l
+        closed_as_before tells l file among tail_of was = by_case l.told tail_of was
           where
-            by_case : (o : Option TailHistory) → l.told ≡ o → IfSome o (λ tail. WasClosedWith (then_told tells) tail.opening tail.looks)
-            by_case None is = tt
-            by_case (Some tail) is =
-                let of = member_is (IsLeftSo watch so_far.opened so_far.moments) so_far.left l reads.files.left there in
-                let tail_is : IsTailOf of.file tail = subst (λ (o : Option TailHistory). IfSome o (IsTailOf of.file)) is of.is_told.tail in
-                let below : tail.opening < length now.events = subst (λ (n : ℕ). n < length now.events) (sym tail_is.opening) (stands_within of.file of.among) in
-                closed_still now (events tells) tail.opening tail.looks below
-                (subst (λ (o : Option TailHistory). IfSome o (λ tail. WasClosedWith now tail.opening tail.looks)) is
-                (member_is (λ (l : Left). IfSome l.told (λ tail. WasClosedWith now tail.opening tail.looks)) so_far.left l done.closed there))
+            by_case : (o : Option TailHistory) → IfSome o (IsTailOf file) → IfSome o (λ tail. WasClosedWith now tail.opening tail.looks) → IfSome o (λ tail. WasClosedWith (then_told tells) tail.opening tail.looks)
+            by_case None of closed = tt
+            by_case (Some tail) of closed =
+                let stands = (member_is (WasOpenedSince first now) (openings_within (files_of so_far)) file done.opened among).stands in
+                let within = got_within now.events file.opening (folders.Opened file.begin.path file.number file.begun) stands in
+                closed_still now (events tells) tail.opening tail.looks (subst (λ (n : ℕ). n < length now.events) (sym of.opening) within) closed
+
+        closed_before : (tells : Option TailHistory) (l : Left) → Contains so_far.left l → WasClosedAs (then_told tells) l
+        closed_before tells l there =
+            let of = member_is (IsLeftSo watch so_far.opened so_far.moments) so_far.left l reads.files.left there in
+            closed_as_before tells l of.file (Contains-append_right (opened_before so_far.earlier) so_far.opened of.file of.among) of.is_told.tail (member_is (WasClosedAs now) so_far.left l done.closed there)
+
+        closed_earlier : (tells : Option TailHistory) (e : Earlier) → Contains so_far.earlier e → WasClosedAs (then_told tells) e.left
+        closed_earlier tells e there =
+            let of = member_is (IsEarlierSo watch so_far.opened so_far.moments) so_far.earlier e reads.files.earlier.each there in
+            closed_as_before tells e.left e.opened (Contains-append_left (opened_before so_far.earlier) so_far.opened e.opened (mapped_there (λ (one : Earlier). one.opened) so_far.earlier e there)) of.is_told.tail
+            (member_is (λ (one : Earlier). WasClosedAs now one.left) so_far.earlier e done.closed_before there)
 
         asked_still : (tells : Option TailHistory) (opening : ℕ) → opening < length now.events → WasOnlyAsked now opening → WasOnlyAsked (then_told tells) opening
         asked_still tells opening below was = record { looks = was.looks; closed = closed_still now (events tells) opening was.looks below was.closed; reads = was.reads }
@@ -322,7 +335,8 @@ module _ {T W L D : Type 0} (words : Words T W L D) (start : Began D) (moments :
               subst (λ (o : Option TailHistory). IsStillOpen (then_told o) other.opening) (sym is)
               (open_still now (events (Some tail)) other.opening (stands_within other among) (done.still_open other among (was_turned other there))
               (closes_no_other tail.opening other.opening tail.looks faults (λ same.
-              let one_file : its.is.opened ≡ other = one_opened so_far.opened its.is.opened other done.apart its.is.of_files among (sym of.opening ∙ same) in
+              let one_file : its.is.opened ≡ other = one_opened (openings_within (files_of so_far)) its.is.opened other done.apart
+              (Contains-append_right (opened_before so_far.earlier) so_far.opened its.is.opened its.is.of_files) (Contains-append_right (opened_before so_far.earlier) so_far.opened other among) (sym of.opening ∙ same) in
               none_of_slot (subst (Contains (slots_of others)) (sym (its.is.is_told.slot ∙ ap (λ (o : Opened). o.begin.slot) one_file)) there))))
 
           has_done : told ≡ tells → HasDone start.settings first (then_told tells) (files_of after)
@@ -332,8 +346,8 @@ module _ {T W L D : Type 0} (words : Words T W L D) (start : Began D) (moments :
             events = ap (λ (l : List Event). l ++ events tells) done.events ∙ append_assoc first.events done.more (events tells);
             scans = nothing_appended start.settings first (told_in so_far.scans) now (then_told tells) done.scans
                 (record { files = refl; more = events tells; events = refl; no_listing = no_listings tells });
-            opened = each_member (WasOpenedSince first (then_told tells)) so_far.opened (λ opened there.
-                let of = member_is (WasOpenedSince first now) so_far.opened opened done.opened there in record {
+            opened = each_member (WasOpenedSince first (then_told tells)) (openings_within (files_of so_far)) (λ opened there.
+                let of = member_is (WasOpenedSince first now) (openings_within (files_of so_far)) opened done.opened there in record {
                   since = of.since;
                   stands = got_first now.events (events tells) opened.opening (folders.Opened opened.begin.path opened.number opened.begun) of.stands;
                   file_is = of.file_is;
@@ -343,8 +357,9 @@ module _ {T W L D : Type 0} (words : Words T W L D) (start : Began D) (moments :
                 (λ here. ⊎_elim (λ among. inl among)
                 (λ was. inr (asked_still tells opening (got_within now.events opening (folders.Opened path number begun) here) was)) (done.serve opening path number begun since here))
                 (λ there. absurd (no_opening tells path number begun there)) (got_in now.events (events tells) opening (folders.Opened path number begun) is);
-            closed = each_last (λ (l : Left). IfSome l.told (λ tail. WasClosedWith (then_told tells) tail.opening tail.looks)) so_far.left left_one
-                (each_member (λ (l : Left). IfSome l.told (λ tail. WasClosedWith (then_told tells) tail.opening tail.looks)) so_far.left (closed_before tells))
+            closed_before = each_member (λ (e : Earlier). WasClosedAs (then_told tells) e.left) so_far.earlier (closed_earlier tells);
+            closed = each_last (WasClosedAs (then_told tells)) so_far.left left_one
+                (each_member (WasClosedAs (then_told tells)) so_far.left (closed_before tells))
                 (subst (λ (o : Option TailHistory). IfSome o (λ tail. WasClosedWith (then_told tells) tail.opening tail.looks)) (sym told_is) (closed_here tells refl));
             still_open = λ other among is_turned. open_here other among is_turned tells refl;
           }
@@ -426,19 +441,19 @@ module _ {T W L D : Type 0} (words : Words T W L D) (start : Began D) (moments :
 
       -- ---- the books
 
-      spans_are : spans_told new.lanes < 2 ^ 64 - 1 → spans_in (files_in after) ≡ spans_told new.lanes
+      spans_are : spans_told new.lanes < 2 ^ 64 - 1 → spans_in (all_told after) ≡ spans_told new.lanes
       spans_are few =
           let same = spans_kept one old.lanes new.lanes go in
           let was = reads.books.spans (omega (arith, few, same)) in
-          let often = spans_often (files_in so_far) (files_in after) same_files in
+          let often = spans_often (all_told so_far) (all_told after) same_all in
           omega (arith, same, was, often)
 
-      have_given : HaveGiven so_far.told (files_in after)
+      have_given : HaveGiven so_far.told (all_told after)
       have_given = record {
-        parcels = often_then so_far.told.issued (flat_map parcels_told (files_in so_far)) (flat_map parcels_told (files_in after)) reads.books.gave.parcels
-            (told_as_often parcels_told (files_in so_far) (files_in after) same_files);
-        notes_are = often_then so_far.told.noted (flat_map notes_told (files_in so_far)) (flat_map notes_told (files_in after)) reads.books.gave.notes_are
-            (told_as_often notes_told (files_in so_far) (files_in after) same_files);
+        parcels = often_then so_far.told.issued (flat_map parcels_told (all_told so_far)) (flat_map parcels_told (all_told after)) reads.books.gave.parcels
+            (told_as_often parcels_told (all_told so_far) (all_told after) same_all);
+        notes_are = often_then so_far.told.noted (flat_map notes_told (all_told so_far)) (flat_map notes_told (all_told after)) reads.books.gave.notes_are
+            (told_as_often notes_told (all_told so_far) (all_told after) same_all);
       }
 
       placed : ArePlaced so_far.told new.lanes carriers so_far.queued got so_far.boxed
@@ -448,10 +463,12 @@ module _ {T W L D : Type 0} (words : Words T W L D) (start : Began D) (moments :
       reads_without = record {
         files = record {
           opened = reads.files.opened;
+          ruled = reads.files.ruled;
           keyed = reads.files.keyed;
           each_once = each_once;
           turned = its.others;
           left = left;
+          earlier = reads.files.earlier;
           reading = λ is. absurd (not_reading is);
           finished = finished;
           over = over phase reads.files.over;
@@ -473,7 +490,7 @@ module _ {T W L D : Type 0} (words : Words T W L D) (start : Began D) (moments :
               (passes_kept one old.lanes new.lanes go) reads.books.booked;
           heard = reads.books.heard;
           placed = placed;
-          backed = all_backed new.lanes carriers so_far.queued got so_far.boxed so_far.told (files_in after) have_given placed;
+          backed = all_backed new.lanes carriers so_far.queued got so_far.boxed so_far.told (all_told after) have_given placed;
           spans = spans_are;
         };
       }

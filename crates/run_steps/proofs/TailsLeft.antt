@@ -36,10 +36,12 @@ module _ {T W L D : Type 0} (words : Words T W L D) where
   pub files_left : (start : Began D) (now : FilesNow T) (so_far : FilesSoFar) → Files words.tails start now so_far → Files words.tails start (record now { phase = phase_left now.phase }) so_far
   files_left start now so_far files = record {
     opened = files.opened;
+    ruled = files.ruled;
     keyed = files.keyed;
     each_once = files.each_once;
     turned = files.turned;
     left = files.left;
+    earlier = files.earlier;
     reading = λ is. absurd (left_not_reading now.phase is);
     finished = λ is some. finished now.phase refl is some;
     over = over now.phase files.over;
@@ -96,10 +98,12 @@ module _ {T W L D : Type 0} (words : Words T W L D) where
     stands = record {
       files = record {
         opened = stands.files.opened;
+        ruled = stands.files.ruled;
         keyed = stands.files.keyed;
         each_once = stands.files.each_once;
         turned = stands.files.turned;
         left = stands.files.left;
+        earlier = stands.files.earlier;
         reading = λ is. absurd (let no : Leaving ≡ Reading = is in cc);
         finished = λ is some. absurd (let no : Leaving ≡ Finished = is in cc);
         over = tt;

@@ -34,6 +34,11 @@ pub record IsOpenedAsListed (settings : Settings) (rows : List Row) (listed : Li
 abbrev pub IsKeyed : Opened → Type 0
 IsKeyed opened = GivesKey opened.rule opened.begin.key opened.begin.path opened.file opened.asked
 
+-- its rule is that of its input, and in range
+pub record IsRuled (settings : Settings) (opened : Opened) : Type 0 where
+  pub rule_is : slice_get settings.inputs opened.begin.input ≡ Some opened.rule
+  pub in_range : IsGroupRule opened.rule.multiline
+
 -- the slots rise from this one on
 abbrev pub AreSlotsFrom : ℕ → List Opened → Type 0
 AreSlotsFrom least [] = Unit {0}

@@ -14,6 +14,7 @@ pub mod CarriersFail
 pub mod CarriersGoOn
 pub mod ClockOn
 pub mod ClosesTail
+pub mod Earlier
 pub mod Ends
 pub mod FirstLook
 pub mod FolderSeen
@@ -30,6 +31,7 @@ pub mod Met
 pub mod MetBy
 pub mod MetIn
 pub mod Onward
+pub mod OpenedAgain
 pub mod Outset
 pub mod PassedOver
 pub mod Questions
@@ -38,6 +40,7 @@ pub mod Readiness
 pub mod Registry
 pub mod RegistryErrors
 pub mod Releasing
+pub mod Reopening
 pub mod RescanErrors
 pub mod RunEnds
 pub mod RunOf

@@ -12,7 +12,7 @@ use Rattle.outside.specs.declared.history.Sight.{Sight}
 use Rattle.told_scans.specs.OnlyAsked.{WasClosedWith, WasOnlyAsked}
 use Rattle.told_scans.specs.ToldScans.{AreToldFrom}
 use Rattle.run_steps.specs.LaterScans.{told_in}
-use Rattle.run_steps.specs.SoFar.{FilesSoFar, Left}
+use Rattle.run_steps.specs.SoFar.{FilesSoFar, Left, openings_within}
 
 abbrev pub IsStillOpen : FolderHistory → ℕ → Type 0
 IsStillOpen told opening = closing_in opening (drop (suc opening) told.events) ≡ None
@@ -30,17 +30,22 @@ openings_of files = map (λ one. one.opening) files
 abbrev pub IsTurnedIn : FilesSoFar → OpenedFile → Type 0
 IsTurnedIn so_far one = Contains (map (λ turned. turned.slot) (flat_map (λ turned. turned) so_far.lanes)) one.begin.slot
 
+-- its tail was closed with what it told, if it tells
+abbrev pub WasClosedAs : FolderHistory → Left → Type 0
+WasClosedAs told one = IfSome one.told (λ tail. WasClosedWith told tail.opening tail.looks)
+
 pub record HasDone (settings : Settings) (before after : FolderHistory) (so_far : FilesSoFar) : Type 0 where
   pub files : after.files ≡ before.files
   pub more : List Event
   pub events : after.events ≡ before.events ++ more
   -- all that it listed since was for its later scans
   pub scans : AreToldFrom settings before (told_in so_far.scans) after
-  pub opened : AllByRecursion (WasOpenedSince before after) so_far.opened
-  pub apart : AreDistinct (openings_of so_far.opened)
+  pub opened : AllByRecursion (WasOpenedSince before after) (openings_within so_far)
+  pub apart : AreDistinct (openings_of (openings_within so_far))
   pub serve : (opening : ℕ) (path : List ℕ) (number : ℕ) (begun : Sight) → length before.events ≤ opening →
-      slice_get after.events opening ≡ Some (Opened path number begun) → Contains (openings_of so_far.opened) opening ⊎ WasOnlyAsked after opening
-  pub closed : AllByRecursion (λ (one : Left). IfSome one.told (λ tail. WasClosedWith after tail.opening tail.looks)) so_far.left
+      slice_get after.events opening ≡ Some (Opened path number begun) → Contains (openings_of (openings_within so_far)) opening ⊎ WasOnlyAsked after opening
+  pub closed : AllByRecursion (WasClosedAs after) so_far.left
+  pub closed_before : AllByRecursion (λ one. WasClosedAs after one.left) so_far.earlier
   pub still_open : (one : OpenedFile) → Contains so_far.opened one → IsTurnedIn so_far one → IsStillOpen after one.opening
 
 abbrev pub HasShown : Settings → Option FolderHistory → Option FolderHistory → FilesSoFar → Type 0

@@ -28,14 +28,15 @@ use Rattle.wire_base.specs.declared.note.Note.{Note}
 use Rattle.wire_base.specs.declared.row.Row.{Row}
 use Rattle.run_steps.specs.Areas.{BeganAtRest, HaveHeldFronts}
 use Rattle.run_steps.specs.Began.{Began}
-use Rattle.run_steps.specs.Begun.{AreBeginNotes, AreSlotsFrom, IsKeyed, IsOpenedAsListed}
+use Rattle.run_steps.specs.Begun.{AreBeginNotes, AreSlotsFrom, IsKeyed, IsOpenedAsListed, IsRuled}
+use Rattle.run_steps.specs.Earlier.{AreEarlier}
 use Rattle.run_steps.specs.HiddenRows.{AreHiddenSoFar}
 use Rattle.run_steps.specs.LastEpoch.{AreToldInEpochs, HasAnswered, HaveOneOver, IsAnswered}
 use Rattle.run_steps.specs.LaterScans.{AreLaterScans, LaterScan, WasMissed, WasNamed}
 use Rattle.run_steps.specs.ReadBehind.{ReadsBehind, ReadsWhereNoFault}
 use Rattle.run_steps.specs.RunState.{Finished, Halted, Leaving, OutOfEpochs, Phase, Reading, RunState}
 use Rattle.run_steps.specs.Shown.{HasGiven, HasShown}
-use Rattle.run_steps.specs.SoFar.{BooksSoFar, FilesSoFar, Left, NotesSoFar, SoFar, books_of, files_of, files_within, notes_of}
+use Rattle.run_steps.specs.SoFar.{BooksSoFar, FilesSoFar, Left, NotesSoFar, SoFar, books_of, files_of, files_within, first_opened, notes_of}
 
 -- ---- the files
 
@@ -129,11 +130,13 @@ pub record FilesNow (T : Type 0) : Type 0 where
   pub phase : Phase
 
 pub record Files {T D : Type 0} (tails : TailWords T) (start : Began D) (now : FilesNow T) (so_far : FilesSoFar) : Type 0 where
-  pub opened : AllByRecursion (IsOpenedAsListed start.settings start.opening start.listed) so_far.opened
+  pub opened : AllByRecursion (IsOpenedAsListed start.settings start.opening start.listed) (first_opened so_far.earlier so_far.opened)
+  pub ruled : AllByRecursion (IsRuled start.settings) so_far.opened
   pub keyed : IsSome start.shown → AllByRecursion IsKeyed so_far.opened
   pub each_once : AreEachOnce so_far.opened (files_within so_far)
   pub turned : Pairs (AreTurnedIn tails (watch_of start so_far.scans) so_far.opened so_far.moments) so_far.lanes now.lanes
   pub left : AllByRecursion (IsLeftSo (watch_of start so_far.scans) so_far.opened so_far.moments) so_far.left
+  pub earlier : AreEarlier (watch_of start so_far.scans) start.shown so_far.opened so_far.moments so_far.earlier
   pub reading : now.phase ≡ Reading → IsReading now.lanes so_far
   pub finished : now.phase ≡ Finished → IsSome start.shown → AllByRecursion (λ turned. IsReadThrough turned.history) (files_within so_far)
   pub over : HaveOneOver now.phase (files_within so_far)
@@ -173,7 +176,7 @@ pub record Notes {D : Type 0} (start : Began D) (keeper : Keeping) (so_far : Not
   pub counted : AreCounted keeper
   pub begun : AreBeginNotes start.opening start.listed so_far.opened so_far.hidden so_far.begun
   pub hidden : AreHiddenSoFar start.settings.inputs start.listed start.opening so_far.hidden
-  pub noted : AreNoted start.opening keeper so_far.begun so_far.collected
+  pub noted : AreNoted start.opening keeper (so_far.announced ++ so_far.begun) so_far.collected
   pub stores : Stores keeper.tracked keeper.store
 
 module _ {T W L D : Type 0} where

@@ -103,7 +103,7 @@ fn follow_listed<F: Folder, L: Link, W: Wire<Link = L>>(
 }
 
 /// What comes of the open file, if it does not give the key with which it was listed.
-fn ask_key<T: Tail>(
+pub(crate) fn ask_key<T: Tail>(
     context: Context<'_, '_>,
     opening: Opening<'_>,
     tail: &mut T,
@@ -160,7 +160,7 @@ fn follow_one<F: Folder, L: Link, W: Wire<Link = L>>(
 
 /// A harvester over the open file. `Err` means out of memory, and gives the tail back; a file whose key the listing did
 /// not tell, and a pattern that is too large when it is compiled, count as that.
-fn harvest<T: Tail>(
+pub(crate) fn harvest<T: Tail>(
     context: Context<'_, '_>,
     opening: Opening<'_>,
     tail: T,
@@ -218,7 +218,7 @@ fn take_in<F: Folder, L: Link, W: Wire<Link = L>>(
 }
 
 /// Admits the harvester to the lane of its slot modulo the number of lanes. `Err` means out of memory, and gives it back.
-fn admit<T: Tail, L: Link, W: Wire<Link = L>>(
+pub(crate) fn admit<T: Tail, L: Link, W: Wire<Link = L>>(
     slot: Slot,
     harvester: Harvester<T>,
     crew: &mut Crew<T, W, L>,

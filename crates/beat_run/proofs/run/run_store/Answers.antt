@@ -160,7 +160,7 @@ returns-clause-accounted g c = λ from opened tells.
     (record { gave = sets.gave; few = few; room = room })
     (met_for_ending c.in_ok-scanned.scanned.listed.items c.args.settings.now.output.attempts c.in_ok-worked.worked.met c.finish.result of c.finish.ensures.stands c.finish.ensures.refused)
     (full_for_ending disks c.args.settings.now _ start.opening sets.gave c.in_ok-scanned.scanned.listed.items c.args.settings.now.output.attempts c.in_ok-worked.worked.met c.finish.result of
-    (has_none _ start _ _ _ (shown_goes_further _ (g.F.Folder.told c.scan.new.folder) _ _ ends.1.ends.stands.files.shown) (g.F.Folder.told c.args.outside.now.folder.now)
+    (has_none _ start _ _ _ refl (shown_goes_further _ (g.F.Folder.told c.scan.new.folder) _ _ ends.1.ends.stands.files.shown) (g.F.Folder.told c.args.outside.now.folder.now)
     (parted_told c.args.settings.now.inputs (g.F.Folder.told c.args.outside.now.folder.now) (g.F.Folder.told c.scan.new.folder) c.in_ok-scanned.scanned (rw inputs at c.in_ok-scanned.ensures.scanned))
     c.in_ok-worked.worked.met ends.1)
     c.finish.ensures.stands c.finish.ensures.refused)
