@@ -33,7 +33,7 @@ module _ {T : Type 0} where
         are = ap (λ (l : List (Laning T)). laning lane ∷ l) rest.are;
       }
 
-  set_same : (lanes : List (Lane T)) (index : ℕ) (some new : Lane T) → index < length lanes → laning new ≡ laning (get_or lanes index some) → lanings (slice_set lanes index new) ≡ lanings lanes
+  pub set_same : (lanes : List (Lane T)) (index : ℕ) (some new : Lane T) → index < length lanes → laning new ≡ laning (get_or lanes index some) → lanings (slice_set lanes index new) ≡ lanings lanes
   set_same [] index some new inside is = absurd (omega (arith, inside))
   set_same (lane ∷ lanes) zero some new inside is = ap (λ (l : Laning T). l ∷ lanings lanes) is
   set_same (lane ∷ lanes) (suc index) some new inside is = ap (λ (l : List (Laning T)). laning lane ∷ l) (set_same lanes index some new (omega (arith, inside)) is)

@@ -89,17 +89,18 @@ module _ {T W L D : Type 0} (words : Words T W L D) (start : Began D) (moments :
 
   none_begun : so_far.begun ≡ []
   none_begun = nothing_told so_far.begun
-      (subst (λ (l : List Hidden). AllByRecursion (MayBegin start.opening start.listed [] l) so_far.begun) none_hidden
-      (subst (λ (l : List Opened). AllByRecursion (MayBegin start.opening start.listed l so_far.hidden) so_far.begun) none_opened stands.notes.begun.each))
+      (subst (λ (l : List Hidden). AllByRecursion (MayBegin so_far.scans start.opening start.listed [] l) so_far.begun) none_hidden
+      (subst (λ (l : List Opened). AllByRecursion (MayBegin so_far.scans start.opening start.listed l so_far.hidden) so_far.begun) none_opened stands.notes.begun.each))
     where
-      nothing_told : (notes : List Note) → AllByRecursion (MayBegin start.opening start.listed [] []) notes → notes ≡ []
+      nothing_told : (notes : List Note) → AllByRecursion (MayBegin so_far.scans start.opening start.listed [] []) notes → notes ≡ []
       nothing_told [] are = refl
       nothing_told (note ∷ notes) are = absurd (by_kind are.0)
         where
-          by_kind : MayBegin start.opening start.listed [] [] note → ⊥
+          by_kind : MayBegin so_far.scans start.opening start.listed [] [] note → ⊥
           by_kind (inl of) = none_there of.file of.among
           by_kind (inr (inl of)) = none_there of.file of.among
-          by_kind (inr (inr of)) = none_there of.hidden of.of_hiddens
+          by_kind (inr (inr (inl of))) = none_there of.hidden of.of_hiddens
+          by_kind (inr (inr (inr of))) = none_there of.file of.among
 
   none_noted_yet : old.keeper.tracked.notes ≡ []
   none_noted_yet =

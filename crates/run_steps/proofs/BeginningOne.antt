@@ -31,6 +31,7 @@ use Rattle.wire_base.specs.declared.numbers.Slot.{Slot}
 use Rattle.run_steps.specs.Began.{Began}
 use Rattle.run_steps.specs.Beginning.{SameLanes}
 use Rattle.run_steps.specs.Begun.{AreBeginNotes, AreSlotsFrom, IsKeyed, IsOpenedAsListed, IsRuled, MayBegin, noted_begin}
+use Rattle.run_steps.specs.LaterScans.{LaterScan}
 use Rattle.run_steps.specs.LastEpoch.{HaveOneOver}
 use Rattle.run_steps.specs.RunState.{Finished, Phase, Reading, RunState}
 use Rattle.run_steps.specs.Shown.{HasShown, IsTurnedIn}
@@ -72,13 +73,15 @@ notes_below slot [] below = tt
 notes_below slot (one ∷ opened) below = (below.0, notes_below slot opened below.1)
 
 -- what the run might tell of some it may tell of more
-pub may_still : (rows : List Row) (listed : List Listed) (opened more : List Opened) (hiddens others : List Hidden) (note : Note) → MayBegin rows listed opened hiddens note →
-    MayBegin rows listed (opened ++ more) (hiddens ++ others) note
-may_still rows listed opened more hiddens others note (inl of) = inl (record { file = of.file; among = Contains-append_left opened more of.file of.among; is = of.is })
-may_still rows listed opened more hiddens others note (inr (inl of)) =
+pub may_still : (scans : List LaterScan) (rows : List Row) (listed : List Listed) (opened more : List Opened) (hiddens others : List Hidden) (note : Note) → MayBegin scans rows listed opened hiddens note →
+    MayBegin scans rows listed (opened ++ more) (hiddens ++ others) note
+may_still scans rows listed opened more hiddens others note (inl of) = inl (record { file = of.file; among = Contains-append_left opened more of.file of.among; is = of.is })
+may_still scans rows listed opened more hiddens others note (inr (inl of)) =
     inr (inl (record { file = of.file; among = Contains-append_left opened more of.file of.among; one = of.one; listed_there = of.listed_there; is = of.is }))
-may_still rows listed opened more hiddens others note (inr (inr of)) =
-    inr (inr (record { hidden = of.hidden; of_hiddens = Contains-append_left hiddens others of.hidden of.of_hiddens; is = of.is }))
+may_still scans rows listed opened more hiddens others note (inr (inr (inl of))) =
+    inr (inr (inl (record { hidden = of.hidden; of_hiddens = Contains-append_left hiddens others of.hidden of.of_hiddens; is = of.is })))
+may_still scans rows listed opened more hiddens others note (inr (inr (inr of))) =
+    inr (inr (inr (record { file = of.file; among = Contains-append_left opened more of.file of.among; name = of.name; named = of.named; is = of.is })))
 
 -- ---- a state with this crew and this keeper
 
@@ -201,10 +204,10 @@ module _ {T W L D : Type 0} (words : Words T W L D) (start : Began D) (moments :
       pub begun_next : was.begun ++ noted_begin one.begin ∷ [] ≡ map (λ (o : Opened). noted_begin o.begin) more
       begun_next = ap (λ (l : List Note). l ++ noted_begin one.begin ∷ []) begins.begun_are ∙ sym (map-append (λ (o : Opened). noted_begin o.begin) was.opened (one ∷ []))
 
-      pub begun : AreBeginNotes start.opening start.listed more was.hidden (was.begun ++ noted_begin one.begin ∷ [])
+      pub begun : AreBeginNotes was.scans start.opening start.listed more was.hidden (was.begun ++ noted_begin one.begin ∷ [])
       begun = record {
-        each = each_last (MayBegin start.opening start.listed more was.hidden) was.begun (noted_begin one.begin)
-            (each_then (MayBegin start.opening start.listed was.opened was.hidden) (MayBegin start.opening start.listed more was.hidden) was.begun (λ note may. subst (λ (l : List Hidden). MayBegin start.opening start.listed more l note) (append-nil was.hidden) (may_still start.opening start.listed was.opened (one ∷ []) was.hidden [] note may))
+        each = each_last (MayBegin was.scans start.opening start.listed more was.hidden) was.begun (noted_begin one.begin)
+            (each_then (MayBegin was.scans start.opening start.listed was.opened was.hidden) (MayBegin was.scans start.opening start.listed more was.hidden) was.begun (λ note may. subst (λ (l : List Hidden). MayBegin was.scans start.opening start.listed more l note) (append-nil was.hidden) (may_still was.scans start.opening start.listed was.opened (one ∷ []) was.hidden [] note may))
             begins.stands.notes.begun.each)
             (inl (record { file = one; among = Contains-append_right was.opened (one ∷ []) one (first_there one []); is = refl }));
         begun = each_last (λ (o : Opened). Contains (was.begun ++ noted_begin one.begin ∷ []) (noted_begin o.begin)) was.opened one

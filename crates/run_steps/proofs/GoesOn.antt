@@ -7,6 +7,8 @@ use Rattle.harvester.specs.declared.harvester.Harvester.{Harvester}
 use Rattle.lanes.specs.Laning.{laning}
 use Rattle.lanes.specs.declared.lane.Lane.{Lane}
 use Rattle.keeper.proofs.InARow.{collects_more, collects_none}
+use Rattle.keeper.specs.Collecting.{Collects}
+use Rattle.keeper.specs.Keeping.{Keeping}
 use Rattle.rounds.specs.Crewed.{lanings}
 use Rattle.rounds.specs.Crewing.{crewing}
 use Rattle.rounds.specs.declared.carrier.Carrier.{Carrier}
@@ -55,7 +57,7 @@ module _ {T W L D F K B : Type 0} {words : StepWords T W L D F K B} {context : C
       b_faults_never_fall = omega arith;
       rings_never_fall = rings;
       clock_goes_on = clock_stays (moments_at words now);
-      collects = collects_none now.storing.keeper.now;
+      keeper = collects_none now.storing.keeper.now;
       same_objects = record { keeper = refl; a = refl; b = refl };
       still_tell = record { a = λ told. told; b = λ told. told };
       readers = readers_go_by_nothing words.all.tails (readers_at words now);
@@ -73,9 +75,10 @@ module _ {T W L D F K B : Type 0} {words : StepWords T W L D F K B} {context : C
   goes_by_nothing met now ready = goes_by_asking met now now.system.bell ready (omega arith) refl
 
   -- if the first met nothing
-  pub keeps_by_two : {met : Option Met} {first mid last : Stop T W L D F K B} → Keeps words context None first mid → Keeps words context met mid last →
-      Keeps words context met first last
-  keeps_by_two {met = met} {first = first} {mid = mid} {last = last} one then = record {
+  pub keeps_by_two : {met : Option Met} {First Second Both : Keeping → Keeping → Type 0} {first mid last : Stop T W L D F K B} →
+      ((a b c : Keeping) → First a b → Second b c → Both a c) → Keeps words context First None first mid → Keeps words context Second met mid last →
+      Keeps words context Both met first last
+  keeps_by_two {met = met} {first = first} {mid = mid} {last = last} both one then = record {
     at_rest = λ goes rest. then.at_rest goes (one.at_rest tt rest);
     ready = then.ready;
     able = then.able;
@@ -88,7 +91,7 @@ module _ {T W L D F K B : Type 0} {words : StepWords T W L D F K B} {context : C
     b_faults_never_fall = omega arith;
     rings_never_fall = omega arith;
     clock_goes_on = clock_by_two (moments_at words first) (moments_at words mid) (moments_at words last) one.clock_goes_on then.clock_goes_on;
-    collects = collects_more first.storing.keeper.now mid.storing.keeper.now last.storing.keeper.now one.collects then.collects;
+    keeper = both first.storing.keeper.now mid.storing.keeper.now last.storing.keeper.now one.keeper then.keeper;
     same_objects = record {
       keeper = then.same_objects.keeper ∙ one.same_objects.keeper;
       a = then.same_objects.a ∙ one.same_objects.a;
@@ -107,13 +110,13 @@ module _ {T W L D F K B : Type 0} {words : StepWords T W L D F K B} {context : C
   pub goes_by_two : {met : Option Met} {first mid last : Stop T W L D F K B} → Goes words context None first mid → Goes words context met mid last →
       Goes words context met first last
   goes_by_two {met = met} {first = first} {mid = mid} {last = last} one then = record {
-    keeps = keeps_by_two one.keeps then.keeps;
+    keeps = keeps_by_two collects_more one.keeps then.keeps;
     onward = onward_by_two words.all (rules_of context) (state_at words first) (state_at words mid) (state_at words last) (one.keeps.at_rest tt) one.onward then.onward;
   }
 
-  keeps_closing : {met : Option Met} {first mid : Stop T W L D F K B} (phase : Phase) (closed : List (Harvester T)) (folder : MutBor F) (lanes : Vec (Lane T) Global) → Keeps words context met first mid →
+  keeps_closing : {met : Option Met} {first mid : Stop T W L D F K B} (phase : Phase) (closed : List (Harvester T)) (folder : MutBor F) (lanes : Vec (Lane T) Global) → Keeps words context Collects met first mid →
       ClosesTails words.all.tails closed (readers_at words mid) (record { folder = words.seen folder.now; lanes = lanings lanes.items }) → folder.ghost_name ≡ mid.system.folder.ghost_name →
-      Keeps words context met first (record mid { phase = phase; crew = record mid.crew { lanes = lanes }; system = record mid.system { folder = folder } })
+      Keeps words context Collects met first (record mid { phase = phase; crew = record mid.crew { lanes = lanes }; system = record mid.system { folder = folder } })
   keeps_closing {met = met} {first = first} {mid = mid} phase closed folder lanes keeps closes same =
       let after : Readers T = record { folder = words.seen folder.now; lanes = lanings lanes.items } in
       let many = many_by_some words.all.tails closed (readers_at words mid) after closes in
@@ -135,7 +138,7 @@ module _ {T W L D F K B : Type 0} {words : StepWords T W L D F K B} {context : C
         b_faults_never_fall = keeps.b_faults_never_fall;
         rings_never_fall = keeps.rings_never_fall;
         clock_goes_on = keeps.clock_goes_on;
-        collects = keeps.collects;
+        keeper = keeps.keeper;
         same_objects = keeps.same_objects;
         still_tell = keeps.still_tell;
         readers = readers_go_by_two words.all.tails (readers_at words first) (readers_at words mid) after keeps.readers
@@ -169,7 +172,7 @@ module _ {T W L D F K B : Type 0} {words : StepWords T W L D F K B} {context : C
   }
 
   keeps_as : {met : Option Met} {first last : Stop T W L D F K B} (now : Option Met) (phase : Phase) → (GoesOn now → GoesOn met) → IfNone now (NoneFailedAt context first → NoneFailedAt context last) →
-      Keeps words context met first last → Keeps words context now first (record last { phase = phase })
+      Keeps words context Collects met first last → Keeps words context Collects now first (record last { phase = phase })
   keeps_as now phase goes_on none keeps = record {
     at_rest = λ on. keeps.at_rest (goes_on on);
     ready = λ on. keeps.ready (goes_on on);
@@ -182,7 +185,7 @@ module _ {T W L D F K B : Type 0} {words : StepWords T W L D F K B} {context : C
     b_faults_never_fall = keeps.b_faults_never_fall;
     rings_never_fall = keeps.rings_never_fall;
     clock_goes_on = keeps.clock_goes_on;
-    collects = keeps.collects;
+    keeper = keeps.keeper;
     same_objects = keeps.same_objects;
     still_tell = keeps.still_tell;
     readers = keeps.readers;

@@ -56,17 +56,18 @@ module _ {T W L D : Type 0} (words : Words T W L D) (reads : (disk : D) → IfSo
 
     -- all notes so far are of slots of listed files
     below : AllByRecursion (HasSlotBelow (length start.listed)) old.tracked.notes
-    below = each_then (MayBegin start.opening start.listed was.opened []) (HasSlotBelow (length start.listed)) old.tracked.notes by_kind (each_begins words reads counts start moments a b shown crew phase opened old is)
+    below = each_then (MayBegin was.scans start.opening start.listed was.opened []) (HasSlotBelow (length start.listed)) old.tracked.notes by_kind (each_begins words reads counts start moments a b shown crew phase opened old is)
       where
         within : (file : Opened) → Contains was.opened file → file.begin.slot.0 < length start.listed
         within file among =
             let listed = member_is (IsOpenedAsListed start.settings start.opening start.listed) was.opened file is.stands.files.opened among in
             slice_get_within start.listed file.begin.slot.0 listed.one listed.listed_there
 
-        by_kind : (note : Note) → MayBegin start.opening start.listed was.opened [] note → HasSlotBelow (length start.listed) note
+        by_kind : (note : Note) → MayBegin was.scans start.opening start.listed was.opened [] note → HasSlotBelow (length start.listed) note
         by_kind note (inl of) = subst (HasSlotBelow (length start.listed)) (sym of.is) (within of.file of.among)
         by_kind note (inr (inl of)) = subst (HasSlotBelow (length start.listed)) (sym of.is) (within of.file of.among)
-        by_kind note (inr (inr of)) = absurd (none_there of.hidden of.of_hiddens)
+        by_kind note (inr (inr (inl of))) = absurd (none_there of.hidden of.of_hiddens)
+        by_kind note (inr (inr (inr of))) = subst (HasSlotBelow (length start.listed)) (sym of.is) (within of.file of.among)
 
     module _ (new : Keeping) (hiddens : List Hidden) (so_far : AreHiddenSoFar start.settings.inputs start.listed start.opening hiddens) (told left : List Note) (told_are : hidden_notes hiddens ≡ told ++ left)
         (begun : AllByRecursion (λ (hidden : Hidden). Contains told (hidden_begin hidden)) hiddens) (tells : TellsNotes told old new) where
@@ -75,11 +76,11 @@ module _ {T W L D : Type 0} (words : Words T W L D) (reads : (disk : D) → IfSo
           (subst AreOrderly (ap (λ (l : List Note). old.tracked.notes ++ l) told_are ∙ sym (append_assoc old.tracked.notes told left))
           (hidden_orderly start.settings.inputs start.listed old.tracked.notes (length start.listed) (take so_far.count start.opening) hiddens so_far.are is.stands.notes.noted.mixed.orderly below))
 
-      begin_notes : AreBeginNotes start.opening start.listed was.opened hiddens (was.begun ++ told)
+      begin_notes : AreBeginNotes was.scans start.opening start.listed was.opened hiddens (was.begun ++ told)
       begin_notes = record {
-        each = both (MayBegin start.opening start.listed was.opened hiddens) was.begun told
-            (each_then (MayBegin start.opening start.listed was.opened was.hidden) (MayBegin start.opening start.listed was.opened hiddens) was.begun still is.stands.notes.begun.each)
-            (each_then (IsOfHidden hiddens) (MayBegin start.opening start.listed was.opened hiddens) told (λ note of. inr (inr of))
+        each = both (MayBegin was.scans start.opening start.listed was.opened hiddens) was.begun told
+            (each_then (MayBegin was.scans start.opening start.listed was.opened was.hidden) (MayBegin was.scans start.opening start.listed was.opened hiddens) was.begun still is.stands.notes.begun.each)
+            (each_then (IsOfHidden hiddens) (MayBegin was.scans start.opening start.listed was.opened hiddens) told (λ note of. inr (inr (inl of)))
             (front_of_both (IsOfHidden hiddens) told left (subst (AllByRecursion (IsOfHidden hiddens)) told_are (of_hidden hiddens hiddens (λ h there. there)))));
         begun = each_then (λ (one : Opened). Contains was.begun (noted_begin one.begin)) (λ (one : Opened). Contains (was.begun ++ told) (noted_begin one.begin)) was.opened
             (λ one there. Contains-append_left was.begun told (noted_begin one.begin) there) is.stands.notes.begun.begun;
@@ -87,10 +88,10 @@ module _ {T W L D : Type 0} (words : Words T W L D) (reads : (disk : D) → IfSo
             (λ hidden there. Contains-append_right was.begun told (hidden_begin hidden) there) begun;
       }
         where
-          still : (note : Note) → MayBegin start.opening start.listed was.opened was.hidden note → MayBegin start.opening start.listed was.opened hiddens note
+          still : (note : Note) → MayBegin was.scans start.opening start.listed was.opened was.hidden note → MayBegin was.scans start.opening start.listed was.opened hiddens note
           still note may =
-              subst (λ (l : List Opened). MayBegin start.opening start.listed l hiddens note) (append-nil was.opened)
-              (may_still start.opening start.listed was.opened [] [] hiddens note (subst (λ (l : List Hidden). MayBegin start.opening start.listed was.opened l note) is.none_hidden may))
+              subst (λ (l : List Opened). MayBegin was.scans start.opening start.listed l hiddens note) (append-nil was.opened)
+              (may_still was.scans start.opening start.listed was.opened [] [] hiddens note (subst (λ (l : List Hidden). MayBegin was.scans start.opening start.listed was.opened l note) is.none_hidden may))
 
       pub hidden_stand : Stands words start (at_phase words start moments a b shown crew new phase) (record was { begun = was.begun ++ told; hidden = hiddens })
       hidden_stand = stands_told words reads counts start moments a b shown crew phase told old new was hiddens so_far orderly tells begin_notes is.stands

@@ -28,19 +28,19 @@ module _ {T : Type 0} (hs : List (Harvester T)) where
   abbrev pub with_these : Laning T → Laning T
   with_these lane = record lane { harvesters = hs }
 
-  passes_at : (front : List (Laning T)) (lane : Laning T) (back : List (Laning T)) → lanes_passes (front ++ with_these lane ∷ back) ≡ lanes_passes (front ++ lane ∷ back)
+  pub passes_at : (front : List (Laning T)) (lane : Laning T) (back : List (Laning T)) → lanes_passes (front ++ with_these lane ∷ back) ≡ lanes_passes (front ++ lane ∷ back)
   passes_at [] lane back = refl
   passes_at (first ∷ front) lane back = let rest = passes_at front lane back in cc
 
-  parcels_at : (front : List (Laning T)) (lane : Laning T) (back : List (Laning T)) → held_parcels (front ++ with_these lane ∷ back) ≡ held_parcels (front ++ lane ∷ back)
+  pub parcels_at : (front : List (Laning T)) (lane : Laning T) (back : List (Laning T)) → held_parcels (front ++ with_these lane ∷ back) ≡ held_parcels (front ++ lane ∷ back)
   parcels_at [] lane back = refl
   parcels_at (first ∷ front) lane back = ap (λ (l : List Parcel). parcels_in first.held ++ l) (parcels_at front lane back)
 
-  notes_at : (front : List (Laning T)) (lane : Laning T) (back : List (Laning T)) → held_notes (front ++ with_these lane ∷ back) ≡ held_notes (front ++ lane ∷ back)
+  pub notes_at : (front : List (Laning T)) (lane : Laning T) (back : List (Laning T)) → held_notes (front ++ with_these lane ∷ back) ≡ held_notes (front ++ lane ∷ back)
   notes_at [] lane back = refl
   notes_at (first ∷ front) lane back = ap (λ (l : List Note). notes_in first.held ++ l) (notes_at front lane back)
 
-  spans_at : (front : List (Laning T)) (lane : Laning T) (back : List (Laning T)) → spans_told (front ++ with_these lane ∷ back) ≡ spans_told (front ++ lane ∷ back)
+  pub spans_at : (front : List (Laning T)) (lane : Laning T) (back : List (Laning T)) → spans_told (front ++ with_these lane ∷ back) ≡ spans_told (front ++ lane ∷ back)
   spans_at [] lane back = refl
   spans_at (first ∷ front) lane back = let rest = spans_at front lane back in omega (arith, rest)
 

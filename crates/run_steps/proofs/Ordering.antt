@@ -1,6 +1,6 @@
 -- The notes of a run stay orderly as more are collected, in whichever order they were told and collected: each was told by the run itself, or
 -- has its ground in what was told of the files.
-use Rattle.std.proofs.Common.{◌≡◌, ◌⊎◌, inl, inr, ⊎_elim, ℕ, ◌+◌, ◌≤◌, ◌==◌, Bool, true, false, List, [], ◌∷◌, ◌++◌, Contains, map, Option, if◌then◌else◌, refl, sym, ap, subst, ◌∙◌, arith}
+use Rattle.std.proofs.Common.{◌≡◌, ◌⊎◌, inl, inr, ⊎_elim, ℕ, ◌+◌, ◌≤◌, ◌==◌, Bool, true, false, List, [], ◌∷◌, ◌++◌, Contains, map, None, Option, if◌then◌else◌, refl, sym, ap, subst, ◌∙◌, arith}
 use Rattle.std.proofs.lemmas.Bool.{eqb-true}
 use Rattle.std.proofs.lemmas.List.Elements.{Contains-append_cases, Contains-append_left, Contains-append_right}
 use Rattle.std.specs.List.{AllByRecursion, flat_map}
@@ -30,7 +30,8 @@ use Rattle.pass_sums.proofs.Weights.{weigh-append}
 use Rattle.rounds.specs.Words.{TailWords}
 use Rattle.ship_core.proofs.Members.{none_there, there_cases}
 use Rattle.ship_core.specs.Orderly.{AreOrderly}
-use Rattle.ship_core.specs.RowOver.{span_in}
+use Rattle.ship_core.specs.RowOver.{naming_of, span_in}
+use Rattle.wire_base.specs.declared.numbers.Epoch.{Epoch}
 use Rattle.wire_base.specs.declared.numbers.Slot.{Slot}
 use Rattle.wire_base.specs.declared.note.Note.{Note}
 use Rattle.wire_base.specs.declared.note.Note.TheVariants.{Announce}
@@ -43,6 +44,7 @@ use Rattle.prospect.specs.declared.listed.Listed.{Listed}
 use Rattle.wire_base.specs.declared.row.Row.{Row}
 use Rattle.run_steps.specs.Begun.{AreBeginNotes, AreSlotsFrom, IsRuled, MayBegin, noted_begin}
 use Rattle.run_steps.specs.Earlier.{AreInTurn, IsEarlierSo}
+use Rattle.run_steps.specs.LaterScans.{LaterScan}
 use Rattle.run_steps.specs.SoFar.{Earlier, Left, announced_by, announced_in, as_opened, first_opened, told_before, with_opening}
 use Rattle.run_steps.specs.Stands.{AreEachOnce, AreTurnedIn, IsLeftSo}
 use Rattle.run_steps.proofs.EarlierApart.{IsToldBefore, IsToldSince, settle_apart}
@@ -112,25 +114,39 @@ module _ {T : Type 0} (tails : TailWords T) (settings : Settings) (watch : Watch
 -- ---- together
 
 -- a note that the run told itself settles nothing
-told_settles_none : (rows : List Row) (listed : List Listed) (opened : List Opened) (hiddens : List Hidden) (note : Note) → MayBegin rows listed opened hiddens note → SettlesNothing note
-told_settles_none rows listed opened hiddens note (inl of) = λ epoch. ap (span_in epoch) of.is
-told_settles_none rows listed opened hiddens note (inr (inl of)) = λ epoch. ap (span_in epoch) of.is
-told_settles_none rows listed opened hiddens note (inr (inr of)) = by_kind of.is
+told_settles_none : (scans : List LaterScan) (rows : List Row) (listed : List Listed) (opened : List Opened) (hiddens : List Hidden) (note : Note) → MayBegin scans rows listed opened hiddens note → SettlesNothing note
+told_settles_none scans rows listed opened hiddens note (inl of) = λ epoch. ap (span_in epoch) of.is
+told_settles_none scans rows listed opened hiddens note (inr (inl of)) = λ epoch. ap (span_in epoch) of.is
+told_settles_none scans rows listed opened hiddens note (inr (inr (inr of))) = λ epoch. ap (span_in epoch) of.is
+told_settles_none scans rows listed opened hiddens note (inr (inr (inl of))) = by_kind of.is
   where
     by_kind : (note ≡ hidden_begin of.hidden) ⊎ (note ≡ hidden_forget of.hidden) → SettlesNothing note
     by_kind (inl is) = λ epoch. ap (span_in epoch) is
     by_kind (inr is) = λ epoch. ap (span_in epoch) is
 
--- nor does an epoch that it announced as it opened a file again
-announced_settles_none : (earlier : List Earlier) (note : Note) → Contains (announced_in earlier) note → SettlesNothing note
-announced_settles_none earlier note there =
+-- what it told as it opened a file again is an epoch
+record IsAnnounce (note : Note) : Type 0 where
+  slot : Slot
+  epoch : Epoch
+  is : note ≡ Announce slot epoch
+
+is_announce : (earlier : List Earlier) (note : Note) → Contains (announced_in earlier) note → IsAnnounce note
+is_announce earlier note there =
     let of = item_of announced_by earlier note there in
     by_case of.item (of.item.next.begin.epoch.0 == of.item.left.turned.history.present.epoch) of.there
   where
-    by_case : (one : Earlier) (b : Bool) → Contains (if b then [] else Announce one.opened.begin.slot one.next.begin.epoch ∷ []) note → SettlesNothing note
+    by_case : (one : Earlier) (b : Bool) → Contains (if b then [] else Announce one.opened.begin.slot one.next.begin.epoch ∷ []) note → IsAnnounce note
     by_case one true is = absurd (none_there note is)
-    by_case one false is = ⊎_elim (λ (same : Announce one.opened.begin.slot one.next.begin.epoch ≡ note). λ epoch. ap (span_in epoch) (sym same)) (λ none. absurd (none_there note none))
-        (there_cases (Announce one.opened.begin.slot one.next.begin.epoch) note [] is)
+    by_case one false is = ⊎_elim (λ (same : Announce one.opened.begin.slot one.next.begin.epoch ≡ note). record { slot = one.opened.begin.slot; epoch = one.next.begin.epoch; is = sym same })
+        (λ none. absurd (none_there note none)) (there_cases (Announce one.opened.begin.slot one.next.begin.epoch) note [] is)
+
+-- which settles nothing
+announced_settles_none : (earlier : List Earlier) (note : Note) → Contains (announced_in earlier) note → SettlesNothing note
+announced_settles_none earlier note there = let of = is_announce earlier note there in λ epoch. ap (span_in epoch) of.is
+
+-- and names none
+pub announced_names_none : (earlier : List Earlier) (note : Note) → Contains (announced_in earlier) note → naming_of note ≡ None
+announced_names_none earlier note there = let of = is_announce earlier note there in ap naming_of of.is
 
 pub distinct_slots : (least : ℕ) (opened : List Opened) → AreSlotsFrom least opened → AreDistinct (map (λ (one : Opened). one.begin.slot.0) opened)
 distinct_slots least [] rise = tt
@@ -174,8 +190,8 @@ same_slots (one ∷ earlier) opened = each (first_opened earlier opened) ∙ sam
     each [] = refl
     each (other ∷ some) = (λ k. slot_stays one.opened other k ∷ each some k)
 
-module _ (rows : List Row) (listed : List Listed) (opened : List Opened) (hiddens : List Hidden) (earlier : List Earlier) (notes begun collected : List Note)
-    (mixed : AreMixed (announced_in earlier ++ begun) collected notes) (are : AreBeginNotes rows listed (first_opened earlier opened) hiddens begun) where
+module _ (scans : List LaterScan) (rows : List Row) (listed : List Listed) (opened : List Opened) (hiddens : List Hidden) (earlier : List Earlier) (notes begun collected : List Note)
+    (mixed : AreMixed (announced_in earlier ++ begun) collected notes) (are : AreBeginNotes scans rows listed (first_opened earlier opened) hiddens begun) where
   told_there : (note : Note) → Contains begun note → Contains notes note
   told_there note there = often_contains same_note tells_notes notes ((announced_in earlier ++ begun) ++ collected) note mixed.often
       (Contains-append_left (announced_in earlier ++ begun) collected note (Contains-append_right (announced_in earlier) begun note there))
@@ -193,9 +209,9 @@ module _ (rows : List Row) (listed : List Listed) (opened : List Opened) (hidden
         there = told_there (noted_begin of.item.begin) (member_is (λ (one : Opened). Contains begun (noted_begin one.begin)) (first_opened earlier opened) of.item are.begun of.among);
       })
 
-module _ (rows : List Row) (listed : List Listed) (opened : List Opened) (hiddens : List Hidden) (earlier : List Earlier) (files : List Turned) (once : AreEachOnce opened files)
+module _ (scans : List LaterScan) (rows : List Row) (listed : List Listed) (opened : List Opened) (hiddens : List Hidden) (earlier : List Earlier) (files : List Turned) (once : AreEachOnce opened files)
     (since : AllByRecursion (IsToldSince opened) files) (before : AllByRecursion (IsToldBefore opened) earlier) (turn : AreInTurn opened earlier)
-    (notes begun collected : List Note) (mixed : AreMixed (announced_in earlier ++ begun) collected notes) (are : AreBeginNotes rows listed (first_opened earlier opened) hiddens begun) where
+    (notes begun collected : List Note) (mixed : AreMixed (announced_in earlier ++ begun) collected notes) (are : AreBeginNotes scans rows listed (first_opened earlier opened) hiddens begun) where
   in_order : Arranged (IsToldSince opened) files (slots_in opened)
   in_order = arranged (IsToldSince opened) (slots_in opened) files once.are since
 
@@ -216,14 +232,14 @@ module _ (rows : List Row) (listed : List Listed) (opened : List Opened) (hidden
   same_all h = omega (arith, weigh-append h (told_before earlier) files, weigh-append h (told_before earlier) turned, in_order.same h)
 
   begun_last : (t : Turned) → Contains turned t → HasItsBegin notes t.slot
-  begun_last t there = slot_begun rows listed opened hiddens earlier notes begun collected mixed are t.slot (subst (λ (l : List Slot). Contains l t.slot) in_order.slots_are (mapped_there (λ (x : Turned). x.slot) turned t there))
+  begun_last t there = slot_begun scans rows listed opened hiddens earlier notes begun collected mixed are t.slot (subst (λ (l : List Slot). Contains l t.slot) in_order.slots_are (mapped_there (λ (x : Turned). x.slot) turned t there))
 
   begun_before : (t : Turned) → Contains (told_before earlier) t → HasItsBegin notes t.slot
   begun_before t there =
       let of = of_map (λ (e : Earlier). e.left.turned) earlier t there in
       let is = member_is (IsToldBefore opened) earlier of.item before of.among in
       subst (λ (u : Turned). HasItsBegin notes u.slot) of.is
-      (subst (HasItsBegin notes) (sym (is.slot ∙ is.same_slot)) (slot_begun rows listed opened hiddens earlier notes begun collected mixed are is.last.begin.slot (mapped_there (λ (one : Opened). one.begin.slot) opened is.last is.among)))
+      (subst (HasItsBegin notes) (sym (is.slot ∙ is.same_slot)) (slot_begun scans rows listed opened hiddens earlier notes begun collected mixed are is.last.begin.slot (mapped_there (λ (one : Opened). one.begin.slot) opened is.last is.among)))
 
   begun_in : AllByRecursion (λ (t : Turned). HasItsBegin notes t.slot) all_turned
   begun_in = each_member (λ (t : Turned). HasItsBegin notes t.slot) all_turned
@@ -244,7 +260,7 @@ module _ (rows : List Row) (listed : List Listed) (opened : List Opened) (hidden
 
       each_settles : AllByRecursion (HasGround all_turned acknowledged) collected → (note : Note) → Contains notes note → SettlesNothing note ⊎ HasGround all_turned acknowledged note
       each_settles grounded note there =
-          ⊎_elim (λ told. ⊎_elim (λ announced. inl (announced_settles_none earlier note announced)) (λ here. inl (told_settles_none rows listed (first_opened earlier opened) hiddens note (member_is (MayBegin rows listed (first_opened earlier opened) hiddens) begun note are.each here))) (Contains-append_cases (announced_in earlier) begun note told))
+          ⊎_elim (λ told. ⊎_elim (λ announced. inl (announced_settles_none earlier note announced)) (λ here. inl (told_settles_none scans rows listed (first_opened earlier opened) hiddens note (member_is (MayBegin scans rows listed (first_opened earlier opened) hiddens) begun note are.each here))) (Contains-append_cases (announced_in earlier) begun note told))
           (λ later. inr (member_is (HasGround all_turned acknowledged) collected note grounded later))
           (Contains-append_cases (announced_in earlier ++ begun) collected note
           (often_contains same_note tells_notes ((announced_in earlier ++ begun) ++ collected) notes note (often_back notes ((announced_in earlier ++ begun) ++ collected) mixed.often) there))

@@ -255,7 +255,7 @@ module _ {T W L D : Type 0} (words : Words T W L D) (reads : (disk : D) → IfSo
         by_epoch true = subst AreOrderly (sym (append-nil keeper.tracked.notes)) stands.notes.noted.mixed.orderly
         by_epoch false = one_more_orderly keeper.tracked.notes (Announce last.begin.slot next.begin.epoch) stands.notes.noted.mixed.orderly
             (begin_begins keeper.tracked.notes last.begin.slot
-            (slot_begun start.opening start.listed so_far.opened so_far.hidden so_far.earlier keeper.tracked.notes so_far.begun so_far.collected stands.notes.noted.mixed stands.notes.begun last.begin.slot
+            (slot_begun so_far.scans start.opening start.listed so_far.opened so_far.hidden so_far.earlier keeper.tracked.notes so_far.begun so_far.collected stands.notes.noted.mixed stands.notes.begun last.begin.slot
             (mapped_there (λ (o : Opened). o.begin.slot) so_far.opened last closed.among)))
 
     noted : AreNoted start.opening new_keeper (announced_in (so_far.earlier ++ one ∷ []) ++ so_far.begun) so_far.collected
@@ -282,10 +282,10 @@ module _ {T W L D : Type 0} (words : Words T W L D) (reads : (disk : D) → IfSo
         more : AreNoted start.opening new_keeper ((announced_in so_far.earlier ++ so_far.begun) ++ announced_by one) so_far.collected
         more = noted_more (announced_by one) keeper new_keeper tells start.opening (announced_in so_far.earlier ++ so_far.begun) so_far.collected orderly stands.notes.noted
 
-    notes_now : Notes start new_keeper (record { opened = first_opened (so_far.earlier ++ one ∷ []) now_opened; hidden = so_far.hidden; announced = announced_in (so_far.earlier ++ one ∷ []); begun = so_far.begun; collected = so_far.collected })
+    notes_now : Notes start new_keeper (record { scans = so_far.scans; opened = first_opened (so_far.earlier ++ one ∷ []) now_opened; hidden = so_far.hidden; announced = announced_in (so_far.earlier ++ one ∷ []); begun = so_far.begun; collected = so_far.collected })
     notes_now = record {
       counted = counted_more (announced_by one) keeper new_keeper tells stands.notes.counted;
-      begun = subst (λ (l : List Opened). AreBeginNotes start.opening start.listed l so_far.hidden so_far.begun) (sym firsts) stands.notes.begun;
+      begun = subst (λ (l : List Opened). AreBeginNotes so_far.scans start.opening start.listed l so_far.hidden so_far.begun) (sym firsts) stands.notes.begun;
       hidden = stands.notes.hidden;
       noted = noted;
       stores = stores_more (announced_by one) keeper new_keeper tells stands.notes.stores;

@@ -1,5 +1,5 @@
 -- The notes that a run told, by its files and hidden rows, and how the books of its rounds fit what files told.
-use Rattle.std.proofs.Common.{◌≡◌, inl, inr, ℕ, ◌≤◌, Contains, List, ◌++◌, append_assoc, Option, refl, sym, ap, subst, ◌∙◌, arith}
+use Rattle.std.proofs.Common.{◌≡◌, inl, inr, ℕ, ◌≤◌, Contains, List, [], ◌++◌, append_assoc, Option, refl, sym, ap, subst, ◌∙◌, arith}
 use Rattle.std.specs.Option.{option_map_or}
 use Rattle.accounts.proofs.Lists.{each_then}
 use Rattle.accounts.specs.Hidden.{Hidden}
@@ -20,8 +20,10 @@ use Rattle.wire_base.specs.declared.parcel.Parcel.{Parcel}
 use Rattle.wire_base.specs.declared.row.Row.{Row}
 use Rattle.run_steps.specs.Telling.{moment_noted}
 use Rattle.run_steps.specs.Begun.{AreBeginNotes, MayBegin, noted_begin}
+use Rattle.run_steps.specs.LaterScans.{LaterScan}
 use Rattle.run_steps.specs.SoFar.{SoFar, files_in}
 use Rattle.run_steps.specs.Stands.{AreNoted, HaveGiven}
+use Rattle.run_steps.proofs.LaterScans.{none_named}
 use Rattle.run_steps.proofs.RunFiles.{moment_listed}
 use Rattle.accounts.proofs.Settling.{taken_weighs}
 
@@ -31,8 +33,8 @@ module _ (rows : List Row) (listed : List Listed) where
   abbrev changed : Opened → ℕ
   changed = moment_listed rows listed
 
-  module _ (opened : List Opened) (hiddens : List Hidden) (begun : List Note) (are : AreBeginNotes rows listed opened hiddens begun) where
-    may_tell : (note : Note) → MayBegin rows listed opened hiddens note → MayTellAs changed opened hiddens note
+  module _ (scans : List LaterScan) (none : scans ≡ []) (opened : List Opened) (hiddens : List Hidden) (begun : List Note) (are : AreBeginNotes scans rows listed opened hiddens begun) where
+    may_tell : (note : Note) → MayBegin scans rows listed opened hiddens note → MayTellAs changed opened hiddens note
     may_tell note (inl of) =
         inl (record { opened = of.file; of_files = of.among; begins = record { path = of.file.begin.path; moment = record { 0 = 0 }; is = of.is; within = omega arith } })
     may_tell note (inr (inl of)) = inr (inl (record {
@@ -45,11 +47,12 @@ module _ (rows : List Row) (listed : List Listed) where
       where
         within : changed of.file ≡ (moment_noted rows of.one).0 → (moment_noted rows of.one).0 ≤ changed of.file
         within is = omega (arith, is)
-    may_tell note (inr (inr of)) = inr (inr of)
+    may_tell note (inr (inr (inl of))) = inr (inr of)
+    may_tell note (inr (inr (inr of))) = absurd (none_named scans none of.file of.name of.named)
 
     pub told_notes : AreToldNotesAs changed opened hiddens begun
     told_notes = record {
-      each = each_then (MayBegin rows listed opened hiddens) (MayTellAs changed opened hiddens) begun may_tell are.each;
+      each = each_then (MayBegin scans rows listed opened hiddens) (MayTellAs changed opened hiddens) begun may_tell are.each;
       begun = each_then (λ (one : Opened). Contains begun (noted_begin one.begin)) (IsNotedAs begun) opened (λ one there. record { path = one.begin.path; moment = record { 0 = 0 }; there = there }) are.begun;
       hidden_begun = are.hidden_begun;
     }

@@ -21,6 +21,7 @@ use Rattle.wire_base.specs.declared.numbers.Slot.{Slot}
 use Rattle.wire_base.specs.declared.parcel.Parcel.{Parcel}
 use Rattle.wire_base.specs.declared.row.Row.{Row}
 use Rattle.run_steps.specs.Begun.{AreBeginNotes, MayBegin, noted_begin}
+use Rattle.run_steps.specs.LaterScans.{LaterScan}
 use Rattle.accounts.proofs.Orderly.{member_is}
 
 -- neither how a file begins nor when it was changed
@@ -57,7 +58,7 @@ module _ (files : List Turned) (acknowledged : List Parcel) (begun collected not
       (λ later. absurd (none (grounded_is_of_events files acknowledged note (member_is (HasGround files acknowledged) collected note ground later))))
       (Contains-append_cases begun collected note (often_contains same_note tells_notes (begun ++ collected) notes note (often_back notes (begun ++ collected) mixed.often) there))
 
-  module _ (rows : List Row) (listed : List Listed) (opened : List Opened) (hiddens : List Hidden) (begins : AreBeginNotes rows listed opened hiddens begun) where
+  module _ (scans : List LaterScan) (rows : List Row) (listed : List Listed) (opened : List Opened) (hiddens : List Hidden) (begins : AreBeginNotes scans rows listed opened hiddens begun) where
     -- one that was opened begins so
     pub record WasOpenedAs (slot : Slot) : Type 0 where
       pub one : Opened
@@ -71,17 +72,18 @@ module _ (files : List Turned) (acknowledged : List Parcel) (begun collected not
     hidden_slot_is begin hidden is = let same : begin.slot ≡ hidden.slot = cc in ap (λ (s : Slot). s.0) same
 
     pub begin_opened : AreHiddenFrom (length listed) hiddens → (begin : Beginning) → begin.slot.0 < length listed → Contains notes (noted_begin begin) → WasOpenedAs begin.slot
-    begin_opened rise begin less there = by_kind (member_is (MayBegin rows listed opened hiddens) begun (noted_begin begin) begins.each (own (noted_begin begin) (λ is. is) there))
+    begin_opened rise begin less there = by_kind (member_is (MayBegin scans rows listed opened hiddens) begun (noted_begin begin) begins.each (own (noted_begin begin) (λ is. is) there))
       where
         of_hidden : (hidden : Hidden) → Contains hiddens hidden → (noted_begin begin ≡ hidden_begin hidden) ⊎ (noted_begin begin ≡ hidden_forget hidden) → ⊥
         of_hidden hidden among (inl is) =
             let same = hidden_slot_is begin hidden is in let most = hidden_from (length listed) hiddens hidden rise among in omega (arith, same, most, less)
         of_hidden hidden among (inr is) = subst IsNoBegin (sym is) tt
 
-        by_kind : MayBegin rows listed opened hiddens (noted_begin begin) → WasOpenedAs begin.slot
+        by_kind : MayBegin scans rows listed opened hiddens (noted_begin begin) → WasOpenedAs begin.slot
         by_kind (inl of) = record { one = of.file; among = of.among; slot_is = same_slot of.file.begin begin (sym of.is) }
         by_kind (inr (inl of)) = absurd (subst IsNoBegin (sym of.is) tt)
-        by_kind (inr (inr of)) = absurd (of_hidden of.hidden of.of_hiddens of.is)
+        by_kind (inr (inr (inl of))) = absurd (of_hidden of.hidden of.of_hiddens of.is)
+        by_kind (inr (inr (inr of))) = absurd (subst IsNoBegin (sym of.is) tt)
 
     pub opened_is_in_notes : (one : Opened) → Contains opened one → Contains notes (noted_begin one.begin)
     opened_is_in_notes one there =

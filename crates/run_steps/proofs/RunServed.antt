@@ -114,7 +114,7 @@ module _ {T W L D : Type 0} (words : Words T W L D) (start : Began D) (state : R
   pub file_of_begin : (slot : ℕ) → slot < length start.listed → HasBegin notes slot → HasFileAt slot
   file_of_begin slot less begun =
       let opened =
-      begin_opened (files_in so_far) (acknowledged_in workers) so_far.begun so_far.collected notes stands.notes.noted.mixed ground start.opening start.listed so_far.opened so_far.hidden stands.notes.begun
+      begin_opened (files_in so_far) (acknowledged_in workers) so_far.begun so_far.collected notes stands.notes.noted.mixed ground so_far.scans start.opening start.listed so_far.opened so_far.hidden stands.notes.begun
       (hidden_slots start.settings.inputs start.listed (length start.listed) (take stands.notes.hidden.count start.opening) so_far.hidden stands.notes.hidden.are)
       begun.begin (let is = begun.slot_is in omega (arith, is, less)) begun.noted in
       let of =
@@ -339,7 +339,7 @@ module _ {T W L D : Type 0} (words : Words T W L D) (start : Began D) (state : R
 
     opened_noted : Contains notes (noted_begin one.begin)
     opened_noted =
-        opened_is_in_notes (files_in so_far) (acknowledged_in workers) so_far.begun so_far.collected notes stands.notes.noted.mixed ground start.opening start.listed so_far.opened so_far.hidden
+        opened_is_in_notes (files_in so_far) (acknowledged_in workers) so_far.begun so_far.collected notes stands.notes.noted.mixed ground so_far.scans start.opening start.listed so_far.opened so_far.hidden
         stands.notes.begun one opened_there
 
     abbrev its_entry : Listed

@@ -130,7 +130,7 @@ module _ {T W L D : Type 0} (words : Words T W L D) (start : Began D) (state : R
     slot_is = refl;
     noted =
         opened_is_in_notes (files_in so_far) (acknowledged_in workers) so_far.begun so_far.collected notes stands.notes.noted.mixed (each_has_ground (files_in so_far) workers so_far.collected fits)
-        start.opening start.listed so_far.opened so_far.hidden stands.notes.begun file.opened (was_opened words start state so_far stands released folder has shown wires file there);
+        so_far.scans start.opening start.listed so_far.opened so_far.hidden stands.notes.begun file.opened (was_opened words start state so_far stands released folder has shown wires file there);
   }
 
   begun_where_in_account : (slot : ℕ) (one : Listed) → slice_get start.listed slot ≡ Some one → IsInAccount file_accounts one → HasBegin notes slot

@@ -1,21 +1,19 @@
 -- What stands of a run stands once it has scanned again: its folder's list has the scan, and nothing else changes.
-use Rattle.std.proofs.Common.{◌≡◌, ◌⊎◌, inl, inr, ⊎_elim, ℕ, suc, ◌<◌, ◌≤◌, false, true, List, [], ◌∷◌, ◌++◌, Contains, append_assoc, drop, length, length-append, map, Option, Some, None, IfSome, IsSome, refl, sym, ap, subst, ◌∙◌, arith}
+use Rattle.std.proofs.Common.{◌≡◌, ◌⊎◌, inl, inr, ⊎_elim, ℕ, suc, ◌<◌, ◌≤◌, false, true, List, [], ◌∷◌, ◌++◌, Contains, append_assoc, drop, length, map, Option, Some, None, IfSome, IsSome, refl, sym, ap, subst, ◌∙◌}
 use Rattle.std.proofs.lemmas.Bool.{cases_lt}
 use Rattle.std.proofs.lemmas.List.{map-append}
 use Rattle.std.proofs.lemmas.List.Elements.{Contains-append_left}
-use Rattle.std.proofs.lemmas.Option.{slice_get_within}
 use Rattle.std.specs.Prelude.{slice_get}
 use Rattle.std.specs.List.{AllByRecursion}
 use Rattle.accounts.proofs.Grounded.{each_member}
 use Rattle.accounts.proofs.Lists.{each_last, each_then, in_order_then}
 use Rattle.accounts.proofs.Onward.{stands_with_more, told_by_other}
 use Rattle.accounts.proofs.Orderly.{member_is}
+use Rattle.accounts.specs.Hidden.{Hidden}
 use Rattle.accounts.specs.Opened.{IsTailOf, Opened}
-use Rattle.accounts.specs.ToldFile.{IsToldFile}
 use Rattle.accounts.specs.Turned.{Turned}
 use Rattle.accounts.specs.Turning.{IsTurnedSo, Pairs}
 use Rattle.accounts.specs.Watch.{MayFindEnd, Name}
-use Rattle.event_tree.specs.declared.settings.Settings.{Settings}
 use Rattle.harvester.specs.Standing.{EndsAt}
 use Rattle.harvester.specs.declared.harvester.Harvester.{Harvester}
 use Rattle.keeper.specs.Keeping.{Keeping}
@@ -26,6 +24,7 @@ use Rattle.outside.specs.Folders.{Event, FolderHistory}
 use Rattle.outside.specs.Folders as folders
 use Rattle.outside.specs.Tails.{TailHistory}
 use Rattle.outside.specs.declared.history.Sight.{Sight}
+use Rattle.prospect.specs.declared.listed.Listed.{Listed}
 use Rattle.rounds.specs.Crewed.{lanings}
 use Rattle.rounds.specs.Words.{Words}
 use Rattle.rounds.specs.declared.crew.Crew.{Crew}
@@ -36,12 +35,15 @@ use Rattle.told_scans.specs.FolderOn.{FolderGoesOn}
 use Rattle.told_scans.specs.OnlyAsked.{WasClosedWith, WasOnlyAsked}
 use Rattle.told_scans.specs.ToldScan.{ToldScan}
 use Rattle.told_scans.specs.ToldScans.{AreToldFrom}
+use Rattle.wire_base.specs.declared.note.Note.{Note}
+use Rattle.wire_base.specs.declared.row.Row.{Row}
 use Rattle.run_steps.specs.Began.{Began}
+use Rattle.run_steps.specs.Begun.{MayBegin}
 use Rattle.run_steps.specs.LaterScans.{AreLaterScans, IsKnownScan, IsNextScan, LaterScan, ScansOn, WasMissed, WasNamed, told_in}
 use Rattle.run_steps.specs.ReadBehind.{ReadsBehind}
 use Rattle.run_steps.specs.RunState.{Phase, RunState}
 use Rattle.run_steps.specs.Shown.{HasDone, HasShown, IsStillOpen, WasClosedAs, WasOpenedSince, openings_of}
-use Rattle.run_steps.specs.SoFar.{Earlier, Left, SoFar, files_of, openings_within}
+use Rattle.run_steps.specs.SoFar.{Earlier, Left, SoFar, files_of, first_opened, openings_within}
 use Rattle.run_steps.specs.Stands.{AreTurnedIn, IsLeftRead, IsLeftSo, Stands, watch_of}
 use Rattle.run_steps.proofs.AreRead.{read_still}
 use Rattle.run_steps.proofs.EarlierOn.{earlier_watched}
@@ -72,6 +74,14 @@ module _ (scans : List LaterScan) (scan : LaterScan) where
     keyed = was.keyed;
     path_is = was.path_is;
   }
+
+  may_begin_on : (rows : List Row) (listed : List Listed) (opened : List Opened) (hiddens : List Hidden) (note : Note) → MayBegin scans rows listed opened hiddens note →
+      MayBegin (scans ++ scan ∷ []) rows listed opened hiddens note
+  may_begin_on rows listed opened hiddens note (inl of) = inl of
+  may_begin_on rows listed opened hiddens note (inr (inl of)) = inr (inl of)
+  may_begin_on rows listed opened hiddens note (inr (inr (inl of))) = inr (inr (inl of))
+  may_begin_on rows listed opened hiddens note (inr (inr (inr of))) =
+      inr (inr (inr (record { file = of.file; among = of.among; name = of.name; named = named_on of.file of.name of.named; is = of.is })))
 
   told_last : (told : ToldScan) → scan.told ≡ Some told → (some : List LaterScan) → told_in (some ++ scan ∷ []) ≡ told_in some ++ told ∷ []
   told_last told is [] = ap (λ (o : Option ToldScan). told_in (record scan { told = o } ∷ [])) is
@@ -260,6 +270,17 @@ module _ {T W L D : Type 0} (words : Words T W L D) (start : Began D) (moments :
         given = stands.files.given;
       };
       books = stands.books;
-      notes = stands.notes;
+      notes = record {
+        counted = stands.notes.counted;
+        begun = record {
+          each = each_then (MayBegin so_far.scans start.opening start.listed (first_opened so_far.earlier so_far.opened) so_far.hidden) (MayBegin scanned_too.scans start.opening start.listed (first_opened so_far.earlier so_far.opened) so_far.hidden) so_far.begun
+              (may_begin_on so_far.scans scan start.opening start.listed (first_opened so_far.earlier so_far.opened) so_far.hidden) stands.notes.begun.each;
+          begun = stands.notes.begun.begun;
+          hidden_begun = stands.notes.begun.hidden_begun;
+        };
+        hidden = stands.notes.hidden;
+        noted = stands.notes.noted;
+        stores = stands.notes.stores;
+      };
       areas = stands.areas;
     }

@@ -6,6 +6,7 @@ use Rattle.accounts.proofs.Onward.{told_later}
 use Rattle.event_tree.specs.declared.settings.Settings.{Settings}
 use Rattle.harvester.specs.Standing.{EndsAt}
 use Rattle.keeper.proofs.InARow.{collects_none}
+use Rattle.keeper.specs.Collecting.{Collects}
 use Rattle.keeper.specs.Keeping.{Keeping}
 use Rattle.outside.specs.Folders.{FolderHistory}
 use Rattle.outside.specs.Times.{EndsWith, GivesMoment}
@@ -150,7 +151,7 @@ module _ {T W L D F K B : Type 0} (words : StepWords T W L D F K B) (context : C
             (by.once ∙ may.follows) at.ends;
       }
 
-  keeps : Keeps words context None now after
+  keeps : Keeps words context Collects None now after
   keeps = record {
     at_rest = λ goes rest. rest;
     ready = λ goes. may.ready;
@@ -163,7 +164,7 @@ module _ {T W L D F K B : Type 0} (words : StepWords T W L D F K B) (context : C
     b_faults_never_fall = omega arith;
     rings_never_fall = omega arith;
     clock_goes_on = clock_stays (moments_at words now);
-    collects = collects_none now.storing.keeper.now;
+    keeper = collects_none now.storing.keeper.now;
     same_objects = record { keeper = refl; a = refl; b = refl };
     still_tell = record { a = λ told. told; b = λ told. told };
     readers = record {

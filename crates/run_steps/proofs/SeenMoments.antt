@@ -18,10 +18,11 @@ use Rattle.ship_core.specs.RowOver.{Start, notes_of, place_over, row_over, slot_
 use Rattle.wire_base.specs.declared.note.Begin.{Begin as Beginning}
 use Rattle.wire_base.specs.declared.note.Note.{Note}
 use Rattle.wire_base.specs.declared.numbers.Epoch.{Epoch}
-use Rattle.wire_base.specs.declared.note.Note.TheVariants.{Seen}
+use Rattle.wire_base.specs.declared.note.Note.TheVariants.{Rename, Seen}
 use Rattle.wire_base.specs.declared.row.Row.{Row}
 use Rattle.run_steps.specs.Began.{Began}
 use Rattle.run_steps.specs.Begun.{AreAllSeen, MayBegin, noted_begin}
+use Rattle.run_steps.specs.LaterScans.{LaterScan}
 use Rattle.run_steps.specs.RunState.{Phase}
 use Rattle.run_steps.specs.Telling.{IsNotFollowed, TellMoments, TellsMoment, seen_note, moment_noted}
 use Rattle.run_steps.proofs.Notes.{moments_are_told}
@@ -30,14 +31,15 @@ use Rattle.accounts.proofs.Orderly.{member_is}
 
 -- ---- a file that was begun has a place
 
-no_forget : (rows : List Row) (listed : List Listed) (opened : List Opened) (notes : List Note) → AllByRecursion (MayBegin rows listed opened []) notes → ForgetNone notes
-no_forget rows listed opened [] are = tt
-no_forget rows listed opened (note ∷ notes) are = (by_kind are.0, no_forget rows listed opened notes are.1)
+no_forget : (scans : List LaterScan) (rows : List Row) (listed : List Listed) (opened : List Opened) (notes : List Note) → AllByRecursion (MayBegin scans rows listed opened []) notes → ForgetNone notes
+no_forget scans rows listed opened [] are = tt
+no_forget scans rows listed opened (note ∷ notes) are = (by_kind are.0, no_forget scans rows listed opened notes are.1)
   where
-    by_kind : MayBegin rows listed opened [] note → IsNoForget note
+    by_kind : MayBegin scans rows listed opened [] note → IsNoForget note
     by_kind (inl of) = subst IsNoForget (sym of.is) tt
     by_kind (inr (inl of)) = subst IsNoForget (sym of.is) tt
-    by_kind (inr (inr of)) = absurd (none_there of.hidden of.of_hiddens)
+    by_kind (inr (inr (inl of))) = absurd (none_there of.hidden of.of_hiddens)
+    by_kind (inr (inr (inr of))) = subst IsNoForget (sym of.is) tt
 
 none_of : (slot : ℕ) (notes : List Note) → place_over slot notes ≡ None → option_map (λ (row : Row). row.epoch) (row_over slot notes) ≡ None
 none_of slot notes is = by_row (row_over slot notes) is
@@ -46,27 +48,28 @@ none_of slot notes is = by_row (row_over slot notes) is
     by_row None e = refl
     by_row (Some row) e = absurd cc
 
-has_place : (rows : List Row) (listed : List Listed) (opened : List Opened) (notes : List Note) (slot : ℕ) → AllByRecursion (MayBegin rows listed opened []) notes → IsBegun slot notes → place_over slot notes ≡ None → ⊥
-has_place rows listed opened notes slot are begun none = by_start (start_over (notes_of slot notes)) refl begun
+has_place : (scans : List LaterScan) (rows : List Row) (listed : List Listed) (opened : List Opened) (notes : List Note) (slot : ℕ) → AllByRecursion (MayBegin scans rows listed opened []) notes → IsBegun slot notes → place_over slot notes ≡ None → ⊥
+has_place scans rows listed opened notes slot are begun none = by_start (start_over (notes_of slot notes)) refl begun
   where
     by_start : (o : Option Start) → start_over (notes_of slot notes) ≡ o → IsSome o → ⊥
     by_start None e some = absurd cc
     by_start (Some start) e some =
-        let stands = slot_stands slot notes start (no_forget rows listed opened notes are) e in
+        let stands = slot_stands slot notes start (no_forget scans rows listed opened notes are) e in
         let q : Some (standing_row (notes_of slot notes) start).epoch ≡ None =
         ap (λ (o : Option Row). option_map (λ (row : Row). row.epoch) o) (sym stands) ∙ none_of slot notes none in
         cc
 
 -- ---- Begins among the notes
 
-file_of_note : (rows : List Row) (listed : List Listed) (opened : List Opened) (notes : List Note) (begin : Beginning) → AllByRecursion (MayBegin rows listed opened []) notes → Contains notes (noted_begin begin) →
+file_of_note : (scans : List LaterScan) (rows : List Row) (listed : List Listed) (opened : List Opened) (notes : List Note) (begin : Beginning) → AllByRecursion (MayBegin scans rows listed opened []) notes → Contains notes (noted_begin begin) →
     FileOfSlot opened begin.slot.0
-file_of_note rows listed opened notes begin are there = by_kind (member_is (MayBegin rows listed opened []) notes (noted_begin begin) are there)
+file_of_note scans rows listed opened notes begin are there = by_kind (member_is (MayBegin scans rows listed opened []) notes (noted_begin begin) are there)
   where
-    by_kind : MayBegin rows listed opened [] (noted_begin begin) → FileOfSlot opened begin.slot.0
+    by_kind : MayBegin scans rows listed opened [] (noted_begin begin) → FileOfSlot opened begin.slot.0
     by_kind (inl of) = record { one = of.file; among = of.among; slot_is = ap slot_of (sym of.is) }
     by_kind (inr (inl of)) = absurd (let q : noted_begin begin ≡ Seen of.file.begin.slot (moment_noted rows of.one) = of.is in cc)
-    by_kind (inr (inr of)) = absurd (none_there of.hidden of.of_hiddens)
+    by_kind (inr (inr (inl of))) = absurd (none_there of.hidden of.of_hiddens)
+    by_kind (inr (inr (inr of))) = absurd (let q : noted_begin begin ≡ Rename of.file.begin.slot of.name.scan of.name.path = of.is in cc)
 
 file_begins : (opened : List Opened) (notes : List Note) (slot : ℕ) → AllByRecursion (λ (one : Opened). Contains notes (noted_begin one.begin)) opened → FileOfSlot opened slot → IsBegun slot notes
 file_begins opened notes slot begun of =
@@ -101,7 +104,7 @@ module _ {T W L D : Type 0} (words : Words T W L D) (reads : (disk : D) → IfSo
           let begun = file_begins is.so_far.opened old.tracked.notes slot
           (subst (λ (l : List Note). AllByRecursion (λ (one : Opened). Contains l (noted_begin one.begin)) is.so_far.opened) (sym is.notes_are) is.stands.notes.begun.begun)
           (subst (λ (l : List Opened). FileOfSlot l slot) (sym is.opened_are) of) in
-          has_place start.opening start.listed is.so_far.opened old.tracked.notes slot (each_begins words reads counts start moments a b shown crew phase opened old is) begun (not.no_place is.stands.notes.noted.mixed.orderly)
+          has_place is.so_far.scans start.opening start.listed is.so_far.opened old.tracked.notes slot (each_begins words reads counts start moments a b shown crew phase opened old is) begun (not.no_place is.stands.notes.noted.mixed.orderly)
 
   pub seen_from : (opened : List Opened) (slot : ℕ) (listed : List Listed) (old new : Keeping) → AreListedFrom start.listed slot listed → TellMoments start.opening slot listed old new → Stand opened old →
       (place : ℕ) (entry : Listed) → slice_get listed place ≡ Some entry → FileOfSlot opened (place + slot) → 0 < (moment_noted start.opening entry).0 →
@@ -128,7 +131,7 @@ module _ {T W L D : Type 0} (words : Words T W L D) (reads : (disk : D) → IfSo
     where
       of : FileOfSlot opened begin.slot.0
       of = subst (λ (l : List Opened). FileOfSlot l begin.slot.0) after.opened_are
-          (file_of_note start.opening start.listed after.so_far.opened new.tracked.notes begin (each_begins words reads counts start moments a b shown crew phase opened new after) among)
+          (file_of_note after.so_far.scans start.opening start.listed after.so_far.opened new.tracked.notes begin (each_begins words reads counts start moments a b shown crew phase opened new after) among)
 
       go : (o : Option Listed) → slice_get start.listed begin.slot.0 ≡ o → IfSome o (λ one. 0 < (moment_noted start.opening one).0 → Contains new.tracked.notes (Seen begin.slot (moment_noted start.opening one)))
       go None e = tt

@@ -82,7 +82,7 @@ module _ {T W L D F K B : Type 0} (words : StepWords T W L D F K B) (context : C
         b_faults_never_fall = stores.hands_on.b_faults_never_fall;
         rings_never_fall = omega arith;
         clock_goes_on = clock_stays moments;
-        collects = stores.hands_on.collects;
+        keeper = stores.hands_on.collects;
         same_objects = stores.hands_on.same_objects;
         still_tell = stores.hands_on.still_tell;
         readers = readers_stay words.all.tails (words.seen system.folder.now) (lanings old.lanes.items) (lanings new.lanes.items) stores.hands_on.slots

@@ -74,7 +74,7 @@ slots_in opened = map (λ (one : Opened). one.begin.slot) opened
 abbrev slots_of : List Turned → List Slot
 slots_of files = map (λ (turned : Turned). turned.slot) files
 
-not_below : (least : ℕ) (opened : List Opened) (slot : Slot) → AreSlotsFrom least opened → Contains (slots_in opened) slot → least ≤ slot.0
+pub not_below : (least : ℕ) (opened : List Opened) (slot : Slot) → AreSlotsFrom least opened → Contains (slots_in opened) slot → least ≤ slot.0
 not_below least [] slot rise there = absurd (none_there slot there)
 not_below least (one ∷ opened) slot rise there = by_case (there_cases one.begin.slot slot (slots_in opened) there) (not_below (one.begin.slot.0 + 1) opened slot rise.1)
   where

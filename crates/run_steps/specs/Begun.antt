@@ -15,6 +15,8 @@ use Rattle.wire_base.specs.declared.note.Note.{Note}
 use Rattle.wire_base.specs.declared.note.Note.TheVariants.{Begin, Seen}
 use Rattle.wire_base.specs.declared.row.Row.{Row}
 use Rattle.run_steps.specs.BeginFor.{begin_for, start_among}
+use Rattle.run_steps.specs.LaterScans.{LaterScan}
+use Rattle.run_steps.specs.Renamed.{IsRenameOf}
 use Rattle.run_steps.specs.Telling.{moment_noted}
 
 -- what the keeper is told of it; its change is noted behind all Begins
@@ -58,13 +60,15 @@ pub record IsBeginOfFile (opened : List Opened) (note : Note) : Type 0 where
   pub among : Contains opened file
   pub is : note ≡ noted_begin file.begin
 
--- what the run may tell the keeper itself: the Begin of one of these, when one of them was changed, and of hidden rows
-abbrev pub MayBegin : List Row → List Listed → List Opened → List Hidden → Note → Type 0
-MayBegin rows listed opened hiddens note = IsBeginOfFile opened note ⊎ (IsSeenOf rows listed opened note ⊎ IsOfHidden hiddens note)
+-- what the run may tell the keeper itself: the Begin of one of these, when one of them was changed, of hidden rows, and by which path a later scan shows
+-- one of these
+abbrev pub MayBegin : List LaterScan → List Row → List Listed → List Opened → List Hidden → Note → Type 0
+MayBegin scans rows listed opened hiddens note =
+    IsBeginOfFile opened note ⊎ (IsSeenOf rows listed opened note ⊎ (IsOfHidden hiddens note ⊎ IsRenameOf scans opened note))
 
 -- the notes that it told, in whichever order: the Begin of each is among them
-pub record AreBeginNotes (rows : List Row) (listed : List Listed) (opened : List Opened) (hiddens : List Hidden) (notes : List Note) : Type 0 where
-  pub each : AllByRecursion (MayBegin rows listed opened hiddens) notes
+pub record AreBeginNotes (scans : List LaterScan) (rows : List Row) (listed : List Listed) (opened : List Opened) (hiddens : List Hidden) (notes : List Note) : Type 0 where
+  pub each : AllByRecursion (MayBegin scans rows listed opened hiddens) notes
   pub begun : AllByRecursion (λ one. Contains notes (noted_begin one.begin)) opened
   pub hidden_begun : AllByRecursion (λ hidden. Contains notes (hidden_begin hidden)) hiddens
 

@@ -1,7 +1,9 @@
 -- What each step of a run keeps between its beginning and its end (this project's profile), whatever else it does: what is told and stored
--- goes on, no count falls, lanes and workers are as many, no file comes, and each object is the same one. Two steps in a row are one.
+-- goes on, no count falls, lanes and workers are as many, no file comes, and each object is the same one. The keeper collects, unless the step tells
+-- it notes. Two steps in a row are one.
 use Rattle.std.specs.Prelude.{◌≡◌, ◌≤◌, ℕ, List, Option, IfNone}
 use Rattle.keeper.specs.Collecting.{Collects}
+use Rattle.keeper.specs.Keeping.{Keeping}
 use Rattle.outside.specs.declared.bell.Bell.{Ghosts as BellGhosts}
 use Rattle.outside.specs.declared.clock.Clock.{Ghosts as ClockGhosts}
 use Rattle.outside.specs.declared.disk.Disk.{Ghosts as DiskGhosts}
@@ -77,7 +79,8 @@ module _ {T W L D F K B : Type 0} (words : StepWords T W L D F K B) where
 -- ---- a step, which met this if it ended the run
 
 module _ {T W L D F K B : Type 0} (words : StepWords T W L D F K B) (context : Context) where
-  pub record Keeps (met : Option Met) (before after : Stop T W L D F K B) : Type 0 where
+  -- of whose keeper this is so
+  pub record Keeps (Keepers : Keeping → Keeping → Type 0) (met : Option Met) (before after : Stop T W L D F K B) : Type 0 where
     pub at_rest : GoesOn met → RestsAt words before → RestsAt words after
     pub ready : GoesOn met → IsReadyIn words.all.tails context (crewing after.crew after.storing)
     pub able : IsAbleIn words.all.tails context (crewing after.crew after.storing)
@@ -94,7 +97,7 @@ module _ {T W L D F K B : Type 0} (words : StepWords T W L D F K B) (context : C
     pub b_faults_never_fall : words.all.disks.faults before.storing.b.now ≤ words.all.disks.faults after.storing.b.now
     pub rings_never_fall : words.rings before.system.bell.now ≤ words.rings after.system.bell.now
     pub clock_goes_on : MomentsGoOn (moments_at words before) (moments_at words after)
-    pub collects : Collects before.storing.keeper.now after.storing.keeper.now
+    pub keeper : Keepers before.storing.keeper.now after.storing.keeper.now
     pub same_objects : SameObjects before.storing after.storing
     pub still_tell : StillTell words.all.disks.contents before.storing after.storing
     -- lanes, and the folder of their tails
@@ -104,6 +107,6 @@ module _ {T W L D F K B : Type 0} (words : StepWords T W L D F K B) (context : C
     pub same_bell : after.system.bell.ghost_name ≡ before.system.bell.ghost_name
 
   pub record Goes (met : Option Met) (before after : Stop T W L D F K B) : Type 0 where
-    pub keeps : Keeps met before after
+    pub keeps : Keeps Collects met before after
     -- what was known of the events told, that notes are backed, and of what the areas may hold, is known of them afterwards
     pub onward : Onward words.all (rules_of context) (state_at words before) (state_at words after)

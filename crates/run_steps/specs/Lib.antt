@@ -12,6 +12,8 @@ pub mod BegunCrew
 pub mod CarriersEnd
 pub mod CarriersFail
 pub mod CarriersGoOn
+pub mod ChangeSteps
+pub mod Changing
 pub mod ClockOn
 pub mod ClosesTail
 pub mod Earlier
@@ -40,6 +42,7 @@ pub mod Readiness
 pub mod Registry
 pub mod RegistryErrors
 pub mod Releasing
+pub mod Renamed
 pub mod Reopening
 pub mod RescanErrors
 pub mod RunEnds

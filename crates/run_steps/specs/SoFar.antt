@@ -123,6 +123,7 @@ books_of so_far = record { files = all_told so_far; told = so_far.told; queued =
 
 -- the notes: a Begin is of a file as it was opened first
 pub record NotesSoFar : Type 0 where
+  pub scans : List LaterScan
   pub opened : List Opened
   pub hidden : List Hidden
   pub announced : List Note
@@ -131,6 +132,7 @@ pub record NotesSoFar : Type 0 where
 
 abbrev pub notes_of : SoFar → NotesSoFar
 notes_of so_far = record {
+  scans = so_far.scans;
   opened = first_opened so_far.earlier so_far.opened;
   hidden = so_far.hidden;
   announced = announced_in so_far.earlier;

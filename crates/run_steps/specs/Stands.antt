@@ -174,7 +174,7 @@ pub record Books {T W L : Type 0} (links : LinkWords L) (wires : WireWords W) (s
 -- what is noted and stored
 pub record Notes {D : Type 0} (start : Began D) (keeper : Keeping) (so_far : NotesSoFar) : Type 0 where
   pub counted : AreCounted keeper
-  pub begun : AreBeginNotes start.opening start.listed so_far.opened so_far.hidden so_far.begun
+  pub begun : AreBeginNotes so_far.scans start.opening start.listed so_far.opened so_far.hidden so_far.begun
   pub hidden : AreHiddenSoFar start.settings.inputs start.listed start.opening so_far.hidden
   pub noted : AreNoted start.opening keeper (so_far.announced ++ so_far.begun) so_far.collected
   pub stores : Stores keeper.tracked keeper.store

@@ -1,4 +1,5 @@
 ghost use Rattle.std.specs.Prelude.{◌≤◌, ℕ, IfSome, List};
+ghost use Rattle.run_steps.specs.ChangeSteps.{EndsAreChanges, EndsAreSteps, RenamesAreChanges, StirsAreSteps};
 ghost use Rattle.run_steps.specs.Goes.{step_words};
 ghost use Rattle.run_steps.specs.ScanSteps.{ScansAreSteps};
 
@@ -17,3 +18,19 @@ pub fn scans_again_are_steps<F: Folder, L: Link, W: Wire<Link = L>, D: Disk, K: 
     ensures { ScansAreSteps
         (step_words F.Folder F.Tail.Tail L.Link W.Wire D.Disk K.Clock B.Bell) }
 {}
+
+/// What a run does with one of its files between two rounds is a step of it: if it stirs the file, asks its harvester to end, or gives it a
+/// new path and tells the keeper that, what stood before it stands after it. It supposes that a scan missed the file before its harvester
+/// is asked to end, and that the newest scan listed the file by its new path and by no other. A law; it computes nothing.
+pub fn changes_are_steps<F: Folder, L: Link, W: Wire<Link = L>, D: Disk, K: Clock, B: Bell>()
+    ensures stirs { StirsAreSteps
+        (step_words F.Folder F.Tail.Tail L.Link W.Wire D.Disk K.Clock B.Bell) }
+    ensures ends { EndsAreChanges
+        (step_words F.Folder F.Tail.Tail L.Link W.Wire D.Disk K.Clock B.Bell) }
+    ensures ends_go { EndsAreSteps
+        (step_words F.Folder F.Tail.Tail L.Link W.Wire D.Disk K.Clock B.Bell) }
+    ensures renames { RenamesAreChanges
+        (step_words F.Folder F.Tail.Tail L.Link W.Wire D.Disk K.Clock B.Bell) }
+{
+    disk_images_are_counted::<D>();
+}

@@ -154,11 +154,7 @@ fn take_in_again<F: Folder, L: Link, W: Wire<Link = L>>(
 }
 
 /// Tells the keeper the epoch, if it is another one than was told last. `Err` means out of memory, and leaves the keeper as it was.
-fn announce(
-    alloc: Global,
-    reopening: Reopening<'_>,
-    keeper: &mut Keeper,
-) -> Result<(), NoMemory>
+fn announce(alloc: Global, reopening: Reopening<'_>, keeper: &mut Keeper) -> Result<(), NoMemory>
     ensures told { OnOk result
         (AnnouncesRise (reopened_of reopening.entry) keeper.old keeper.new) }
     ensures kept { OnErr result (keeper.new ≡ keeper.old) }

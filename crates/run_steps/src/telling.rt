@@ -103,7 +103,7 @@ fn moment_among(rows: &Rows, listed: &Listed) -> Moment
 }
 
 /// Whether the slot has a Begin, and its row is not gone.
-fn is_followed(slot: Slot, keeper: &Keeper) -> bool
+pub(crate) fn is_followed(slot: Slot, keeper: &Keeper) -> bool
     ensures followed { OnTrue result (IsFollowed slot.0 keeper.now.tracked) }
     ensures not_followed { OnFalse result (IsNotFollowed slot.0 keeper.now.tracked) }
 {

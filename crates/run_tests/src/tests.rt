@@ -1,3 +1,4 @@
+mod changes;
 mod harvesters;
 mod one_lane;
 mod scans;

@@ -77,7 +77,7 @@ returns-clause-goes g c faulty =
         rings_never_fall = omega arith;
         clock_goes_on = subst (MomentsGoOn before) (sym c.pause_where_still.ensures.moments_kept)
             (clock_by_moment before c.now-now.result.0 (g.K.Clock.moments c.now-now.new.self) c.now-now.ensures.told);
-        collects = keeps.collects;
+        keeper = keeps.collects;
         same_objects = keeps.same_objects;
         still_tell = keeps.still_tell;
         readers = readers_stay all.tails (seen_in g.F.Folder c.args.system.now.folder.now) (lanings c.args.crew.now.lanes.items) (lanings c.round-round.new.self.lanes.items) keeps.slots

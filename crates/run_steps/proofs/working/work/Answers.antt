@@ -195,7 +195,7 @@ returns-clause-cause g c =
 
 pub returns-clause-collects : goal.returns-clause-collects
 returns-clause-collects g c =
-    collects_more c.args.storing.now.keeper.now c.follow_begun-worked.new.storing.keeper.now c.settle_after-worked.new.storing.keeper.now c.follow_begun-worked.ensures.goes.keeps.collects
+    collects_more c.args.storing.now.keeper.now c.follow_begun-worked.new.storing.keeper.now c.settle_after-worked.new.storing.keeper.now c.follow_begun-worked.ensures.goes.keeps.keeper
     c.settle_after-worked.ensures.last.hands_on.collects
 
 pub returns-clause-told : goal.returns-clause-told

@@ -1,0 +1,236 @@
+//! What a run does with its files between two rounds: something was heard of a file, it was removed, or it has another path.
+ghost use Rattle.std.specs.Prelude.{◌≡◌, ◌<◌, IfOk, false, length};
+
+use crate::tests::harvesters::rules::{KEY, text};
+use crate::tests::harvesters::tail::{Look, ScriptTail};
+use crate::tests::one_lane::files::open;
+use crate::tests::one_lane::rig::Rig;
+use harvester::{Harvester, Turn};
+use keeper::{Keeper, KeeperTurn, few_keys_by_length};
+use lanes::Lane;
+use outside_mem::MemDisk;
+use run_steps::{NewName, end_file, open_registry, rename_file, stir_file};
+use settle_box::SettleBox;
+use std::alloc::Global;
+use std::sync::Wait;
+use std::test::Fail;
+use wire_base::{Epoch, Moment, Note, Slot};
+
+type StillLane = Lane<ScriptTail<'static>>;
+
+/// The moment of each turn.
+const NOW: Moment = Moment(1_000);
+
+/// A file whose second line has no end.
+const A: &[Look] = &[Look::Holds(b"a\nx")];
+
+const B: &[Look] = &[Look::Holds(b"bb\ny")];
+
+/// A lane that has the file of this slot.
+fn lane_of(alloc: Global, slot: u32, script: &'static [Look<'static>]) -> Result<StillLane, Fail> {
+    let (_rig, put, post) = Rig::new(alloc, 1, 1)?;
+    let mut lane = Lane::new(alloc, put, post);
+    let Ok(harvester) = open(alloc, slot, ScriptTail::new(script), false) else {
+        return Err(Fail::new("no memory for a harvester"));
+    };
+    if lane.admit(harvester).is_err() {
+        return Err(Fail::new("no memory for a seat"));
+    }
+    Ok(lane)
+}
+
+/// Two lanes, of the slots 0 and 1.
+fn lanes_of(alloc: Global) -> Result<Vec<StillLane>, Fail>
+    ensures { IfOk result (λ lanes. 0 < length lanes.items) }
+{
+    let mut lanes = Vec::new(alloc);
+    lanes.push(lane_of(alloc, 0, A)?)?;
+    lanes.push(lane_of(alloc, 1, B)?)?;
+    Ok(lanes)
+}
+
+/// A keeper, and what it stores by.
+struct Noting {
+    keeper: Keeper,
+    desk: SettleBox,
+    a: MemDisk,
+    b: MemDisk,
+    ghost of_this_box: { keeper.pass.desk ≡ desk.id },
+    ghost is_open: { keeper.store.closed ≡ false },
+}
+
+/// A keeper that was told how the file of this slot begins.
+fn noting(alloc: Global, slot: u32) -> Result<Noting, Fail> {
+    let mut a = MemDisk::new(alloc, b"")?;
+    let mut b = MemDisk::new(alloc, b"")?;
+    let Ok(store) = open_registry(alloc, &mut a, &mut b) else {
+        return Err(Fail::new("the registry does not open"));
+    };
+    if store.rows().len() > 0 {
+        return Err(Fail::new("the registry has a row"));
+    }
+    let (desk, _post, collect) = SettleBox::new(alloc, 1)?;
+    let Ok(mut keeper) = Keeper::new(alloc, store, collect) else {
+        return Err(Fail::new("no memory for a keeper"));
+    };
+    few_keys_by_length();
+    let begin = Note::Begin {
+        slot: Slot(slot),
+        key: text(alloc, KEY)?,
+        path: text(alloc, "/a")?,
+        epoch: Epoch(0),
+        base: 0,
+        changed: Moment(0),
+    };
+    if keeper.tell(alloc, begin).is_err() {
+        return Err(Fail::new("no memory for a note"));
+    }
+    Ok(Noting { keeper, desk, a, b })
+}
+
+/// The path of the row that it stores.
+fn is_stored_as<R: Wait>(rt: &R, alloc: Global, noting: Noting, path: &str) -> bool {
+    let Noting {
+        mut keeper,
+        desk,
+        mut a,
+        mut b,
+    } = noting;
+    match keeper.turn(rt, alloc, &desk, &mut a, &mut b) {
+        KeeperTurn::Kept(_) => {
+            let rows = keeper.rows();
+            rows.len() == 1 && rows.at(0).path.as_str() == path
+        }
+        _ => false,
+    }
+}
+
+/// A turn of it; `None` where its file has changed.
+fn turned(alloc: Global, harvester: &mut Harvester<ScriptTail<'static>>) -> Option<Turn> {
+    if harvester.changed() {
+        return None;
+    }
+    Some(harvester.turn(alloc, NOW, false))
+}
+
+/// The next turn of the file of this slot tells an event whose payload ends so, or finds its end.
+fn is_turned(alloc: Global, lane: &mut StillLane, slot: u32, payload_end: Option<&[u8]>) -> bool {
+    let Some(harvester) = lane.find(Slot(slot)) else {
+        return false;
+    };
+    match (turned(alloc, harvester), payload_end) {
+        (Some(Turn::Issued(parcel)), Some(end)) => parcel.payload.bytes().ends_with(end),
+        (Some(Turn::AtEnd), None) => !harvester.forgets(),
+        _ => false,
+    }
+}
+
+/// Whether it is at rest.
+fn rests(lane: &mut StillLane, slot: u32) -> bool {
+    match lane.find(Slot(slot)) {
+        Some(harvester) => harvester.idle_since().is_some(),
+        None => false,
+    }
+}
+
+/// A call, and what it answers.
+#[derive(Clone, Copy)]
+enum Step {
+    Stir(u32, bool),
+    End(u32, bool),
+    /// Its path is `/b`, by the scan of this number.
+    Rename(u32, u64, bool),
+    Turn(u32, Option<&'static [u8]>),
+    Rests(u32, bool),
+}
+
+/// Makes the call, and compares its answer.
+fn is_answered(
+    alloc: Global,
+    lanes: &mut [StillLane],
+    noting: &mut Noting,
+    step: Step,
+) -> Result<bool, Fail>
+    requires { 0 < length lanes.old }
+    ensures { length lanes.new ≡ length lanes.old }
+{
+    Ok(match step {
+        Step::Stir(slot, there) => stir_file(Slot(slot), lanes) == there,
+        Step::End(slot, there) => end_file(Slot(slot), lanes) == there,
+        Step::Rename(slot, scan, told) => {
+            let name = NewName {
+                slot: Slot(slot),
+                scan,
+                path: text(alloc, "/b")?,
+            };
+            rename_file(alloc, name, lanes, &mut noting.keeper)? == told
+        }
+        Step::Turn(slot, end) => {
+            let lane = slot as usize % lanes.len();
+            is_turned(alloc, &mut lanes[lane], slot, end)
+        }
+        Step::Rests(slot, wanted) => {
+            let lane = slot as usize % lanes.len();
+            rests(&mut lanes[lane], slot) == wanted
+        }
+    })
+}
+
+/// The second file is at rest until something is heard of it.
+const STIRRED: &[Step] = &[
+    Step::Turn(1, Some(br#""message":"bb"}"#)),
+    Step::Turn(1, None),
+    Step::Rests(1, true),
+    Step::Stir(3, false),
+    Step::Rests(1, true),
+    Step::Stir(1, true),
+    Step::Rests(1, false),
+];
+
+/// Its last line is told once it is asked to end; the other file is read on.
+const ENDED: &[Step] = &[
+    Step::Turn(1, Some(br#""message":"bb"}"#)),
+    Step::Turn(1, None),
+    Step::End(3, false),
+    Step::Turn(1, None),
+    Step::Rests(1, true),
+    Step::End(1, true),
+    Step::Rests(1, false),
+    Step::Turn(1, Some(br#""message":"y"}"#)),
+    Step::Turn(1, None),
+    Step::Turn(0, Some(br#""message":"a"}"#)),
+    Step::Turn(0, None),
+];
+
+/// The file of the begun slot has another path, and tells it; the file of a slot that was not begun has not.
+const RENAMED: &[Step] = &[
+    Step::Rename(0, 1, true),
+    Step::Rename(1, 1, false),
+    Step::Turn(0, Some(br#"{"path":"/b"},"offset":0},"message":"a"}"#)),
+    Step::Turn(1, Some(br#"{"path":"/a"},"offset":0},"message":"bb"}"#)),
+];
+
+/// No lane has a harvester of the begun slot.
+const CLOSED: &[Step] = &[Step::Rename(2, 1, true), Step::Rename(0, 1, false)];
+
+/// The slot of which the keeper was told, what is done, and the path of its row then.
+const CASES: &[(u32, &[Step], &str)] = &[
+    (0, STIRRED, "/a"),
+    (0, ENDED, "/a"),
+    (0, RENAMED, "/b"),
+    (2, CLOSED, "/b"),
+];
+
+#[test]
+fn files_change_between_rounds(rt: HostRuntime) -> Result<(), Fail> {
+    for (begun, steps, path) in CASES {
+        let mut lanes = lanes_of(rt.alloc())?;
+        let mut noting = noting(rt.alloc(), *begun)?;
+        for (place, step) in steps.iter().enumerate() {
+            let answered = is_answered(rt.alloc(), lanes.as_mut_slice(), &mut noting, *step)?;
+            assert!(rt; answered, "step {place}");
+        }
+        assert!(rt; is_stored_as(rt, rt.alloc(), noting, path));
+    }
+    Ok(())
+}
