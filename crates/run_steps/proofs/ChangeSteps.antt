@@ -336,7 +336,7 @@ module _ {T W L D F K B : Type 0} (words : StepWords T W L D F K B) where
           (all_told so_far) (λ h. refl) so_far.collected (held_in now.storing.keeper.now.held) stands.notes.noted.got in
           let first = first_named so_far.earlier so_far.opened name.slot named.file named.among named.slot_is in
           let newest : (one : Opened) → Contains (first_opened so_far.earlier so_far.opened) one → one.begin.slot ≡ name.slot → IsNewestName so_far.scans one as_name =
-              λ one among of_slot. named.newest one (first_within so_far.earlier so_far.opened one among) of_slot in
+          λ one among of_slot. named.newest one (first_within so_far.earlier so_far.opened one among) of_slot in
           let orderly = rename_follows so_far.scans start.opening start.listed (first_opened so_far.earlier so_far.opened) so_far.hidden so_far.begun name.slot as_name first.one first.among first.slot_is newest
           stands.notes.begun now.storing.keeper.now.tracked.notes so_far.collected so_far.earlier stands.notes.noted.mixed (all_told so_far) (flat so_far.told.acknowledged) ground names.followed.begun in
           record {

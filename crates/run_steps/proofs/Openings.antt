@@ -19,7 +19,9 @@ use Rattle.outside.specs.declared.history.Look.{Look}
 use Rattle.outside.specs.declared.history.Sight.{Sight}
 use Rattle.ship_core.proofs.Members.{first_there, later_there, none_there, there_cases}
 use Rattle.told_scans.proofs.ScanAdds.{closes_another}
+use Rattle.told_scans.proofs.ScansPlaced.{between_last, between_on, between_since}
 use Rattle.told_scans.proofs.ToldScans.{nothing_appended}
+use Rattle.told_scans.specs.ToldScan.{ToldScan}
 use Rattle.told_scans.specs.ToldScans.{AreToldFrom}
 use Rattle.told_scans.specs.OnlyAsked.{IsNoListing, WasClosedWith, WasOnlyAsked}
 use Rattle.run_steps.specs.Shown.{HasDone, IsStillOpen, IsTurnedIn, WasClosedAs, WasOpenedSince, openings_of}
@@ -107,14 +109,14 @@ with_more now more = record { files = now.files; events = now.events ++ more }
 pub record Adds (now : FolderHistory) (more : List Event) (news : List OpenedFile) : Type 0 where
   pub no_listing : AllByRecursion IsNoListing more
   pub closes_none : (opening : ℕ) → opening < length now.events → closing_in opening more ≡ None
-  pub stand : AllByRecursion (WasOpenedSince now (with_more now more)) news
+  pub stand : AllByRecursion (WasOpenedSince now [] (with_more now more)) news
   pub behind : AllByRecursion (λ (one : OpenedFile). one.opening ≡ length now.events) news
   pub serve : (place : ℕ) (path : List ℕ) (number : ℕ) (begun : Sight) → slice_get more place ≡ Some (Opened path number begun) →
       Contains (openings_of news) (length now.events + place) ⊎ WasOnlyAsked (with_more now more) (length now.events + place)
 
-pub openings_below : (before now : FolderHistory) (files : List OpenedFile) → AllByRecursion (WasOpenedSince before now) files → (opening : ℕ) → Contains (openings_of files) opening → opening < length now.events
-openings_below before now [] each opening there = absurd (none_there opening there)
-openings_below before now (one ∷ files) each opening there = from (there_cases one.opening opening (openings_of files) there) (openings_below before now files each.1 opening)
+pub openings_below : (before : FolderHistory) (scans : List ToldScan) (now : FolderHistory) (files : List OpenedFile) → AllByRecursion (WasOpenedSince before scans now) files → (opening : ℕ) → Contains (openings_of files) opening → opening < length now.events
+openings_below before scans now [] each opening there = absurd (none_there opening there)
+openings_below before scans now (one ∷ files) each opening there = from (there_cases one.opening opening (openings_of files) there) (openings_below before scans now files each.1 opening)
   where
     from : (one.opening ≡ opening) ⊎ Contains (openings_of files) opening → (Contains (openings_of files) opening → opening < length now.events) → opening < length now.events
     from (inl same) later = let less = slice_get_within now.events one.opening (Opened one.begin.path one.number one.begun) each.0.stands in omega (arith, less, same)
@@ -122,8 +124,13 @@ openings_below before now (one ∷ files) each opening there = from (there_cases
 
 pub below_all : (settings : Settings) (before now : FolderHistory) (so_far : SoFar) → HasDone settings before now (files_of so_far) → (one : OpenedFile) → Contains so_far.opened one → one.opening < length now.events
 below_all settings before now so_far done one there =
-    slice_get_within now.events one.opening (Opened one.begin.path one.number one.begun) (member_is (WasOpenedSince before now) (openings_within (files_of so_far)) one done.opened
+    slice_get_within now.events one.opening (Opened one.begin.path one.number one.begun) (member_is (WasOpenedSince before (told_in so_far.scans) now) (openings_within (files_of so_far)) one done.opened
     (Contains-append_right (opened_before so_far.earlier) so_far.opened one there)).stands
+
+pub since_all : (settings : Settings) (before now : FolderHistory) (so_far : FilesSoFar) → HasDone settings before now so_far → (one : OpenedFile) → Contains so_far.opened one → length before.events ≤ one.opening
+since_all settings before now so_far done one there =
+    between_since settings one.opening before (told_in so_far.scans) now done.scans (member_is (WasOpenedSince before (told_in so_far.scans) now) (openings_within so_far) one done.opened
+    (Contains-append_right (opened_before so_far.earlier) so_far.opened one there)).between
 
 module _ (settings : Settings) (before now : FolderHistory) (so_far : SoFar) (done : HasDone settings before now (files_of so_far)) (more : List Event) where
   pub closed_stays : (opening : ℕ) (looks : List Look) → WasClosedWith now opening looks → WasClosedWith (with_more now more) opening looks
@@ -151,10 +158,14 @@ module _ (settings : Settings) (before now : FolderHistory) (so_far : SoFar) (do
   earlier_stays [] each = tt
   earlier_stays (one ∷ earlier) each = ((left_stays (one.left ∷ []) (each.0, tt)).0, earlier_stays earlier each.1)
 
-  pub opened_stays : (files : List OpenedFile) → AllByRecursion (WasOpenedSince before now) files → AllByRecursion (WasOpenedSince before (with_more now more)) files
-  opened_stays files each = each_then (WasOpenedSince before now) (WasOpenedSince before (with_more now more)) files
+  grown : length now.events ≤ length (with_more now more).events
+  grown = let is = length-append now.events more in omega (arith, is)
+
+  pub opened_stays : (files : List OpenedFile) → AllByRecursion (WasOpenedSince before (told_in so_far.scans) now) files →
+      AllByRecursion (WasOpenedSince before (told_in so_far.scans) (with_more now more)) files
+  opened_stays files each = each_then (WasOpenedSince before (told_in so_far.scans) now) (WasOpenedSince before (told_in so_far.scans) (with_more now more)) files
       (λ one was. record {
-        since = was.since;
+        between = between_on one.opening before (told_in so_far.scans) now (with_more now more) grown was.between;
         stands = got_in_front now.events more one.opening (Opened one.begin.path one.number one.begun) was.stands;
         file_is = was.file_is;
       }) each
@@ -166,9 +177,13 @@ module _ (settings : Settings) (before now : FolderHistory) (so_far : SoFar) (do
   all_opened = openings_within (files_of so_far)
 
   module _ (news : List OpenedFile) (adds : Adds now more news) where
-    news_stand : AllByRecursion (WasOpenedSince before (with_more now more)) news
-    news_stand = each_then (WasOpenedSince now (with_more now more)) (WasOpenedSince before (with_more now more)) news
-        (λ one was. record { since = omega (arith, was.since, longer); stands = was.stands; file_is = was.file_is }) adds.stand
+    news_stand : AllByRecursion (WasOpenedSince before (told_in so_far.scans) (with_more now more)) news
+    news_stand = each_then (WasOpenedSince now [] (with_more now more)) (WasOpenedSince before (told_in so_far.scans) (with_more now more)) news
+        (λ one was. record {
+          between = between_last settings one.opening before (told_in so_far.scans) now (with_more now more) done.scans was.between.0 was.between.1;
+          stands = was.stands;
+          file_is = was.file_is;
+        }) adds.stand
 
     serve : (opening : ℕ) (path : List ℕ) (number : ℕ) (begun : Sight) → length before.events ≤ opening → slice_get (now.events ++ more) opening ≡ Some (Opened path number begun) →
         (Contains (openings_of all_opened) opening ⊎ Contains (openings_of news) opening) ⊎ WasOnlyAsked (with_more now more) opening
@@ -201,9 +216,10 @@ module _ (settings : Settings) (before now : FolderHistory) (so_far : SoFar) (do
       scans = subst (λ (scans : List LaterScan). AreToldFrom settings before (told_in scans) (with_more now more)) (sym are.scans_are)
           (nothing_appended settings before (told_in so_far.scans) now (with_more now more) done.scans
           (record { files = refl; more = more; events = refl; no_listing = adds.no_listing }));
-      opened = each_member (WasOpenedSince before (with_more now more)) (openings_within after) (λ one there.
-          ⊎_elim (member_is (WasOpenedSince before (with_more now more)) all_opened one (opened_stays all_opened done.opened)) (member_is (WasOpenedSince before (with_more now more)) news one news_stand)
-          (are.opened one there));
+      opened = subst (λ (scans : List LaterScan). AllByRecursion (WasOpenedSince before (told_in scans) (with_more now more)) (openings_within after)) (sym are.scans_are)
+          (each_member (WasOpenedSince before (told_in so_far.scans) (with_more now more)) (openings_within after) (λ one there.
+          ⊎_elim (member_is (WasOpenedSince before (told_in so_far.scans) (with_more now more)) all_opened one (opened_stays all_opened done.opened))
+          (member_is (WasOpenedSince before (told_in so_far.scans) (with_more now more)) news one news_stand) (are.opened one there)));
       apart = are.apart;
       serve = λ opening path number begun least is. ⊎_elim (λ there. inl (are.there opening there)) inr (serve opening path number begun least is);
       closed = closed;
@@ -231,7 +247,7 @@ module _ (settings : Settings) (before now : FolderHistory) (so_far : SoFar) (do
 
   pub apart_with : (one : OpenedFile) → one.opening ≡ length now.events → AreDistinct (openings_of all_opened ++ openings_of (one ∷ []))
   apart_with one at = distinct_then (openings_of all_opened) one.opening done.apart
-      (λ opening there. let less = openings_below before now all_opened done.opened opening there in omega (arith, less, at))
+      (λ opening there. let less = openings_below before (told_in so_far.scans) now all_opened done.opened opening there in omega (arith, less, at))
 
   pub apart_without : AreDistinct (openings_of all_opened ++ [])
   apart_without = subst AreDistinct (sym (append-nil (openings_of all_opened))) done.apart
@@ -272,9 +288,9 @@ module _ (now : FolderHistory) where
     abbrev opening_of_it : Event
     opening_of_it = Opened one.begin.path one.number one.begun
 
-    was_opened : (others : List Event) → WasOpenedSince now (with_more now (opening_of_it ∷ others)) one
+    was_opened : (others : List Event) → WasOpenedSince now [] (with_more now (opening_of_it ∷ others)) one
     was_opened others = record {
-      since = omega (arith, at);
+      between = let long = length-append now.events (opening_of_it ∷ others) in (omega (arith, at), omega (arith, at, long));
       stands = ap (λ (k : ℕ). slice_get (now.events ++ opening_of_it ∷ others) k) at ∙ got_at_end now.events opening_of_it others;
       file_is = file_is;
     }

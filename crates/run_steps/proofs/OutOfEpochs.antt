@@ -36,7 +36,9 @@ use Rattle.run_steps.specs.Releasing.{HasNoHarvesters}
 use Rattle.run_steps.specs.RunEnds.{HasEnded}
 use Rattle.run_steps.specs.RunState.{Phase}
 use Rattle.told_scans.specs.OnlyAsked.{WasClosedWith}
+use Rattle.run_steps.specs.LaterScans.{told_in}
 use Rattle.run_steps.specs.Shown.{HasDone, HasShown, WasOpenedSince}
+use Rattle.run_steps.proofs.Openings.{since_all}
 use Rattle.run_steps.specs.SoFar.{Left, SoFar, files_in, files_of}
 use Rattle.run_steps.specs.Stands.{IsLeftSo, watch_of, Stands}
 use Rattle.run_steps.specs.declared.met.Met.{Met}
@@ -122,8 +124,8 @@ module _ {T W L D : Type 0} (words : Words T W L D) (start : Began D) (ending : 
     base_is : file.begin.base ≡ (start_among start.opening one).base
     base_is = ap (λ (b : Begin). b.base) as_listed.begin_is ∙ ap (λ (l : Listed). (start_among start.opening l).base) same
 
-    opened_since : WasOpenedSince before after file
-    opened_since = member_is (WasOpenedSince before after) so_far.opened file done.opened is_left.among
+    opened_since : WasOpenedSince before (told_in so_far.scans) after file
+    opened_since = member_is (WasOpenedSince before (told_in so_far.scans) after) so_far.opened file done.opened is_left.among
 
     module _ (tail : TailHistory) (told : IsToldFile (watch_of start so_far.scans) file so_far.moments left.turned (Some tail)) where
       abbrev h : History
@@ -173,7 +175,7 @@ module _ {T W L D : Type 0} (words : Words T W L D) (start : Began D) (ending : 
         key = file.begin.key;
         key_is = subst (λ (l : Listed). l.key ≡ Some file.begin.key) same as_listed.keyed;
         opening = file.opening;
-        since = opened_since.since;
+        since = since_all start.settings before after (files_of so_far) done file is_left.among;
         number = file.number;
         file = file.file;
         file_is = opened_since.file_is;

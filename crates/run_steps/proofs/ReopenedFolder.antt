@@ -15,6 +15,7 @@ use Rattle.outside.specs.Folders.{Event, FolderHistory}
 use Rattle.ship_core.proofs.Members.{first_there, later_there, none_there, there_cases}
 use Rattle.run_steps.specs.OpenedAgain.{IsClosedLast}
 use Rattle.run_steps.specs.Shown.{HasDone, IsStillOpen, IsTurnedIn, WasClosedAs, openings_of}
+use Rattle.run_steps.specs.LaterScans.{told_in}
 use Rattle.run_steps.specs.SoFar.{Earlier, FilesSoFar, Left, SoFar, files_of, opened_before, openings_within, with_opening}
 use Rattle.run_steps.proofs.EarlierMore.{slot_numbers}
 use Rattle.run_steps.proofs.Openings.{Adds, AreThose, all_opened, below_all, done_on, earlier_stays, left_stays, openings_below, still_stays, with_more}
@@ -84,7 +85,7 @@ module _ (settings : Settings) (first now : FolderHistory) (so_far : SoFar) (don
         (λ none. absurd (none_there opening none)) (there_cases next.opening opening [] new)) there);
     apart = subst (λ (l : List OpenedFile). AreDistinct (openings_of l)) (sym within_are)
         (all_apart next before so_far.opened last closed.among (sym same) slots done.apart
-        (λ n there. let below = openings_below first now was done.opened n there in omega (arith, below, at)));
+        (λ n there. let below = openings_below first (told_in so_far.scans) now was done.opened n there in omega (arith, below, at)));
   }
 
   -- tails that were closed stay so

@@ -66,6 +66,8 @@ use Rattle.told_scans.proofs.ScanAsked.{in_this_run}
 use Rattle.told_scans.proofs.ScanList.{IsOfEntry, asked_apart, asked_within, behind_listings, entry_of, is_before, placed_in_scan, since_listed}
 use Rattle.told_scans.proofs.ScanOf.{ShowsSome, shows_file}
 use Rattle.run_steps.proofs.LaterScans.{none_named}
+use Rattle.run_steps.proofs.Openings.{since_all}
+use Rattle.run_steps.specs.LaterScans.{told_in}
 use Rattle.run_steps.proofs.OneScan.{around_one, is_around, told_so}
 use Rattle.told_scans.specs.ToldScan.{IsAround, IsTold, RunAround, ToldScan}
 
@@ -277,12 +279,12 @@ module _ {T W L D : Type 0} (words : Words T W L D) (start : Began D) (state : R
         ap (λ (o : Option Closing). first_of_two (option_map (λ (c : Closing). c.looks) o) (open_looks_in one.opening [])) closing_is
         ∙ ap (λ (l : List Look). Some l) looks_are
 
-    opened_since : WasOpenedSince folder.scanned folder.ended one
-    opened_since = member_is (WasOpenedSince folder.scanned folder.ended) so_far.opened one done.opened was_opened
+    opened_since : WasOpenedSince folder.scanned (told_in so_far.scans) folder.ended one
+    opened_since = member_is (WasOpenedSince folder.scanned (told_in so_far.scans) folder.ended) so_far.opened one done.opened was_opened
 
     -- behind the listings, as behind all of the scan
     behind : length folder.listed.events ≤ one.opening
-    behind = let since = opened_since.since in let long = since_listed the_scan scan_told around_scan stands_around in omega (arith, since, long)
+    behind = let since = since_all start.settings folder.scanned folder.ended (files_of (opened_once so_far)) done one was_opened in let long = since_listed the_scan scan_told around_scan stands_around in omega (arith, since, long)
 
     -- ---- as it was listed
 
@@ -421,7 +423,7 @@ module _ {T W L D : Type 0} (words : Words T W L D) (start : Began D) (state : R
   none_in_both opening asked followed =
       let within = placed_in_scan the_scan scan_told around_scan stands_around opening asked in
       let of = of_map (λ (o : Opened). o.opening) so_far.opened opening followed in
-      let since = (member_is (WasOpenedSince folder.scanned folder.ended) so_far.opened of.item done.opened of.among).since in
+      let since = since_all start.settings folder.scanned folder.ended (files_of (opened_once so_far)) done of.item of.among in
       let is = of.is in
       omega (arith, within, since, is)
 

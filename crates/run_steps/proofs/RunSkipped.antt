@@ -32,8 +32,9 @@ use Rattle.run_steps.specs.RunOf.{FolderTold, run_of}
 use Rattle.run_steps.specs.RunState.{RunState}
 use Rattle.run_steps.specs.Scanned.{HasScanned}
 use Rattle.run_steps.specs.Served.{AreServed, HasBegin, WasSkippedBy, folder_trace}
+use Rattle.run_steps.specs.LaterScans.{told_in}
 use Rattle.run_steps.specs.Shown.{WasOpenedSince}
-use Rattle.run_steps.specs.SoFar.{SoFar, files_in}
+use Rattle.run_steps.specs.SoFar.{SoFar, files_in, files_of}
 use Rattle.run_steps.specs.Stands.{Stands}
 use Rattle.run_steps.proofs.EarlierOn.{opened_once}
 use Rattle.run_steps.proofs.FollowedOrSkipped.{came_so, each_then_so, none_followed}
@@ -45,6 +46,7 @@ use Rattle.run_steps.proofs.RunNotes.{opened_is_in_notes}
 use Rattle.run_steps.proofs.RunServed.{file_of_begin}
 use Rattle.run_steps.proofs.SkippedFor.{skipped_still}
 use Rattle.accounts.proofs.Orderly.{member_is}
+use Rattle.run_steps.proofs.Openings.{since_all}
 use Rattle.accounts.proofs.Grounded.{each_member}
 
 pub listed_there : (listed : List Listed) (slot : ℕ) (one : Listed) → slice_get listed slot ≡ Some one → Contains listed one
@@ -92,8 +94,9 @@ module _ {T W L D : Type 0} (words : Words T W L D) (start : Began D) (state : R
       let file = there.file in
       let listed = as_listed words start state so_far stands released folder has shown wires file there.among in
       let same : listed.one ≡ one = some_is listed.one one (sym listed.listed_there ∙ ap (slice_get start.listed) there.slot_is ∙ at) in
-      let since = member_is (WasOpenedSince folder.scanned folder.ended) so_far.opened file.opened (done words start state so_far stands released folder has shown wires).opened
-      (was_opened words start state so_far stands released folder has shown wires file there.among) in
+      let doing = done words start state so_far stands released folder has shown wires in
+      let among = was_opened words start state so_far stands released folder has shown wires file there.among in
+      let since = member_is (WasOpenedSince folder.scanned (told_in so_far.scans) folder.ended) so_far.opened file.opened doing.opened among in
       let its_path = path_is words start state so_far stands released folder has shown wires file there.among ∙ ap (λ (l : Listed). l.path) same in
       record {
         slot = account_of placed file;
@@ -103,7 +106,7 @@ module _ {T W L D : Type 0} (words : Words T W L D) (start : Began D) (state : R
         input_is = input_is words start state so_far stands released folder has shown wires file there.among ∙ ap (λ (l : Listed). l.input) same;
         tail = followed_tail file.opened file.looks file.turned.history;
         of_slot = first_there (followed_tail file.opened file.looks file.turned.history) (tails_of (map tail_by file.later));
-        behind = since.since;
+        behind = since_all start.settings folder.scanned folder.ended (files_of (opened_once so_far)) doing file.opened among;
         begun = file.opened.begun;
         opened = since.stands ∙ ap (λ (path : List ℕ). Some (OpenedAs path file.opened.number file.opened.begun)) its_path;
       }

@@ -17,9 +17,11 @@ use Rattle.accounts.specs.Watch.{MayFindEnd, Name}
 use Rattle.harvester.specs.Standing.{EndsAt}
 use Rattle.harvester.specs.declared.harvester.Harvester.{Harvester}
 use Rattle.keeper.specs.Keeping.{Keeping}
+use Rattle.kept_rows.proofs.Acknowledging.{got_in_front}
 use Rattle.kept_rows.specs.Scans.{StandInOrder}
 use Rattle.kept_rows.specs.Trace.{closing_in}
 use Rattle.lanes.specs.Laning.{Laning}
+use Rattle.outside.specs.Files.{File}
 use Rattle.outside.specs.Folders.{Event, FolderHistory}
 use Rattle.outside.specs.Folders as folders
 use Rattle.outside.specs.Tails.{TailHistory}
@@ -30,11 +32,12 @@ use Rattle.rounds.specs.Words.{Words}
 use Rattle.rounds.specs.declared.crew.Crew.{Crew}
 use Rattle.told_scans.proofs.AskedEvents.{event_was, only_asked_still}
 use Rattle.told_scans.proofs.ScanAdds.{AddsClosingNone, asked_in_scan, scan_adds}
+use Rattle.told_scans.proofs.ScansPlaced.{between_scanned}
 use Rattle.told_scans.proofs.ToldScans.{scan_appended}
 use Rattle.told_scans.specs.FolderOn.{FolderGoesOn}
 use Rattle.told_scans.specs.OnlyAsked.{WasClosedWith, WasOnlyAsked}
 use Rattle.told_scans.specs.ToldScan.{ToldScan}
-use Rattle.told_scans.specs.ToldScans.{AreToldFrom}
+use Rattle.told_scans.specs.ToldScans.{AreToldFrom, LiesBetween}
 use Rattle.wire_base.specs.declared.note.Note.{Note}
 use Rattle.wire_base.specs.declared.row.Row.{Row}
 use Rattle.run_steps.specs.Began.{Began}
@@ -47,7 +50,7 @@ use Rattle.run_steps.specs.SoFar.{Earlier, Left, SoFar, files_of, first_opened, 
 use Rattle.run_steps.specs.Stands.{AreTurnedIn, IsLeftRead, IsLeftSo, Stands, watch_of}
 use Rattle.run_steps.proofs.AreRead.{read_still}
 use Rattle.run_steps.proofs.EarlierOn.{earlier_watched}
-use Rattle.run_steps.proofs.Openings.{below_all, earlier_stays, left_stays, opened_stays, still_stays, with_more}
+use Rattle.run_steps.proofs.Openings.{below_all, earlier_stays, left_stays, still_stays, with_more}
 
 -- ---- what it says of files is said still
 
@@ -143,14 +146,24 @@ module _ {T W L D : Type 0} (words : Words T W L D) (start : Began D) (moments :
             (subst (λ (h : FolderHistory). length h.events ≤ opening) (sym next.earlier_is) behind)
             (subst (λ (h : FolderHistory). slice_get h.events opening ≡ Some (folders.Opened path number begun)) (sym next.scanned_is) is)))
 
+    still_opened : AllByRecursion (WasOpenedSince before (told_in scanned_too.scans) after) (openings_within (files_of so_far))
+    still_opened = subst (λ (l : List ToldScan). AllByRecursion (WasOpenedSince before l after) (openings_within (files_of so_far))) (sym (told_last so_far.scans scan next.known.told next.known.told_is so_far.scans))
+        (each_then (WasOpenedSince before (told_in so_far.scans) now) (WasOpenedSince before (told_in so_far.scans ++ next.known.told ∷ []) after) (openings_within (files_of so_far))
+        (λ one was. record {
+          between = subst (LiesBetween one.opening before (told_in so_far.scans ++ next.known.told ∷ [])) next.scanned_is
+              (between_scanned one.opening before (told_in so_far.scans) next.known.told (subst (LiesBetween one.opening before (told_in so_far.scans)) (sym next.earlier_is) was.between));
+          stands = subst (λ (h : FolderHistory). slice_get h.events one.opening ≡ Some (folders.Opened one.begin.path one.number one.begun)) (sym after_is)
+              (got_in_front now.events adds.more one.opening (folders.Opened one.begin.path one.number one.begun) was.stands);
+          file_is = ap (λ (l : List File). slice_get l one.number) adds.files ∙ was.file_is;
+        }) done.opened)
+
     has_done : HasDone start.settings before after (files_of scanned_too)
     has_done = record {
       files = adds.files ∙ done.files;
       more = done.more ++ adds.more;
       events = adds.events ∙ ap (λ (l : List Event). l ++ adds.more) done.events ∙ append_assoc before.events done.more adds.more;
       scans = goes_on;
-      opened = subst (λ (h : FolderHistory). AllByRecursion (WasOpenedSince before h) (openings_within (files_of so_far))) (sym after_is)
-          (opened_stays start.settings before now so_far done adds.more (openings_within (files_of so_far)) done.opened);
+      opened = still_opened;
       apart = done.apart;
       serve = serve;
       closed = subst (λ (h : FolderHistory). AllByRecursion (WasClosedAs h) so_far.left) (sym after_is) (left_stays start.settings before now so_far done adds.more so_far.left done.closed);

@@ -1,5 +1,5 @@
 -- Tails that are closed keep what stands of a run: their files are left, with what the tails told.
-use Rattle.std.proofs.Common.{◌≡◌, ◌≢◌, ◌⊎◌, inl, inr, ⊎_elim, ℕ, zero, suc, ◌+◌, ◌≤◌, ◌<◌, ◌^◌, ◌-◌, false, drop, List, [], ◌∷◌, ◌++◌, Contains, length, map, append_assoc, Option, Some, None, IsSome, IfSome, refl, sym, ap, subst, ◌∙◌, arith}
+use Rattle.std.proofs.Common.{◌≡◌, ◌≢◌, ◌⊎◌, inl, inr, ⊎_elim, ℕ, zero, suc, ◌+◌, ◌≤◌, ◌<◌, ◌^◌, ◌-◌, false, drop, List, [], ◌∷◌, ◌++◌, Contains, length, length-append, map, append_assoc, Option, Some, None, IsSome, IfSome, refl, sym, ap, subst, ◌∙◌, arith}
 use Rattle.std.proofs.lemmas.List.{map-append}
 use Rattle.std.proofs.lemmas.List.Elements.{Contains-append_left, Contains-append_right}
 use Rattle.std.specs.Prelude.{slice_get}
@@ -51,6 +51,7 @@ use Rattle.run_steps.specs.RunState.{Finished, Halted, Leaving, OutOfEpochs, Pha
 use Rattle.told_scans.specs.OnlyAsked.{IsNoListing, WasClosedWith, WasOnlyAsked}
 use Rattle.told_scans.proofs.ToldScans.{nothing_appended}
 use Rattle.run_steps.specs.LaterScans.{told_in}
+use Rattle.told_scans.proofs.ScansPlaced.{between_on}
 use Rattle.run_steps.specs.Shown.{HasDone, HasShown, IsStillOpen, WasClosedAs, WasOpenedSince, openings_of}
 use Rattle.run_steps.specs.SoFar.{Earlier, FilesSoFar, Left, SoFar, all_told, books_of, files_in, files_of, files_within, notes_of, opened_before, openings_within, told_before}
 use Rattle.run_steps.specs.Stands.{AreAnswered, AreEachOnce, Books, BooksNow, Files, FilesNow, HaveGiven, IsLeftRead, IsLeftSo, MayTell, ReadsYet, watch_of}
@@ -271,7 +272,7 @@ module _ {T W L D : Type 0} (words : Words T W L D) (start : Began D) (moments :
         -- an opening stands within the list so far
         stands_within : (opened : Opened) → Contains so_far.opened opened → opened.opening < length now.events
         stands_within opened among =
-            got_within now.events opened.opening (folders.Opened opened.begin.path opened.number opened.begun) (member_is (WasOpenedSince first now) (openings_within (files_of so_far)) opened done.opened
+            got_within now.events opened.opening (folders.Opened opened.begin.path opened.number opened.begun) (member_is (WasOpenedSince first (told_in so_far.scans) now) (openings_within (files_of so_far)) opened done.opened
             (Contains-append_right (opened_before so_far.earlier) so_far.opened opened among)).stands
 
         no_listings : (tells : Option TailHistory) → AllByRecursion IsNoListing (events tells)
@@ -290,7 +291,7 @@ module _ {T W L D : Type 0} (words : Words T W L D) (start : Began D) (moments :
             by_case : (o : Option TailHistory) → IfSome o (IsTailOf file) → IfSome o (λ tail. WasClosedWith now tail.opening tail.looks) → IfSome o (λ tail. WasClosedWith (then_told tells) tail.opening tail.looks)
             by_case None of closed = tt
             by_case (Some tail) of closed =
-                let stands = (member_is (WasOpenedSince first now) (openings_within (files_of so_far)) file done.opened among).stands in
+                let stands = (member_is (WasOpenedSince first (told_in so_far.scans) now) (openings_within (files_of so_far)) file done.opened among).stands in
                 let within = got_within now.events file.opening (folders.Opened file.begin.path file.number file.begun) stands in
                 closed_still now (events tells) tail.opening tail.looks (subst (λ (n : ℕ). n < length now.events) (sym of.opening) within) closed
 
@@ -346,9 +347,9 @@ module _ {T W L D : Type 0} (words : Words T W L D) (start : Began D) (moments :
             events = ap (λ (l : List Event). l ++ events tells) done.events ∙ append_assoc first.events done.more (events tells);
             scans = nothing_appended start.settings first (told_in so_far.scans) now (then_told tells) done.scans
                 (record { files = refl; more = events tells; events = refl; no_listing = no_listings tells });
-            opened = each_member (WasOpenedSince first (then_told tells)) (openings_within (files_of so_far)) (λ opened there.
-                let of = member_is (WasOpenedSince first now) (openings_within (files_of so_far)) opened done.opened there in record {
-                  since = of.since;
+            opened = each_member (WasOpenedSince first (told_in so_far.scans) (then_told tells)) (openings_within (files_of so_far)) (λ opened there.
+                let of = member_is (WasOpenedSince first (told_in so_far.scans) now) (openings_within (files_of so_far)) opened done.opened there in record {
+                  between = between_on opened.opening first (told_in so_far.scans) now (then_told tells) (let is = length-append now.events (events tells) in omega (arith, is)) of.between;
                   stands = got_first now.events (events tells) opened.opening (folders.Opened opened.begin.path opened.number opened.begun) of.stands;
                   file_is = of.file_is;
                 });

@@ -10,16 +10,17 @@ use Rattle.outside.specs.Folders.{Event, FolderHistory, Opened}
 use Rattle.outside.specs.Times.{EndsWith}
 use Rattle.outside.specs.declared.history.Sight.{Sight}
 use Rattle.told_scans.specs.OnlyAsked.{WasClosedWith, WasOnlyAsked}
-use Rattle.told_scans.specs.ToldScans.{AreToldFrom}
+use Rattle.told_scans.specs.ToldScan.{ToldScan}
+use Rattle.told_scans.specs.ToldScans.{AreToldFrom, LiesBetween}
 use Rattle.run_steps.specs.LaterScans.{told_in}
 use Rattle.run_steps.specs.SoFar.{FilesSoFar, Left, openings_within}
 
 abbrev pub IsStillOpen : FolderHistory → ℕ → Type 0
 IsStillOpen told opening = closing_in opening (drop (suc opening) told.events) ≡ None
 
--- it stands in the folder's list, behind the scan
-pub record WasOpenedSince (before after : FolderHistory) (one : OpenedFile) : Type 0 where
-  pub since : length before.events ≤ one.opening
+-- it is in the folder's list, after the first scan and within none of these later ones
+pub record WasOpenedSince (before : FolderHistory) (scans : List ToldScan) (after : FolderHistory) (one : OpenedFile) : Type 0 where
+  pub between : LiesBetween one.opening before scans after
   pub stands : slice_get after.events one.opening ≡ Some (Opened one.begin.path one.number one.begun)
   pub file_is : slice_get after.files one.number ≡ Some one.file
 
@@ -40,7 +41,7 @@ pub record HasDone (settings : Settings) (before after : FolderHistory) (so_far 
   pub events : after.events ≡ before.events ++ more
   -- all that it listed since was for its later scans
   pub scans : AreToldFrom settings before (told_in so_far.scans) after
-  pub opened : AllByRecursion (WasOpenedSince before after) (openings_within so_far)
+  pub opened : AllByRecursion (WasOpenedSince before (told_in so_far.scans) after) (openings_within so_far)
   pub apart : AreDistinct (openings_of (openings_within so_far))
   pub serve : (opening : ℕ) (path : List ℕ) (number : ℕ) (begun : Sight) → length before.events ≤ opening →
       slice_get after.events opening ≡ Some (Opened path number begun) → Contains (openings_of (openings_within so_far)) opening ⊎ WasOnlyAsked after opening

@@ -384,7 +384,7 @@ module _ (inputs : List InputRule) where
 
 -- ---- asking that was cut off
 
-ended_only : (inputs : List InputRule) (others : List Listed) (before : FolderHistory) (last : List Event) → IsCutOff inputs others before last → HasOnlyAsked before (with_events before last)
+pub ended_only : (inputs : List InputRule) (others : List Listed) (before : FolderHistory) (last : List Event) → IsCutOff inputs others before last → HasOnlyAsked before (with_events before last)
 ended_only inputs others before last (inl none) = subst (λ (l : List Event). HasOnlyAsked before (with_events before l)) (sym none)
     (subst (HasOnlyAsked before) (λ k. record { files = before.files; events = sym (append-nil before.events) k }) (asked_none before))
 ended_only inputs others before last (inr cut) = cut_only cut.one.path before last cut.cut

@@ -1,4 +1,5 @@
 pub mod AskedEvents
+pub mod CutOff
 pub mod Events
 pub mod ExactScans
 pub mod FaultyScans

@@ -12,7 +12,7 @@ use Rattle.told_scans.specs.OnlyAsked.{WasOnlyAsked}
 use Rattle.told_scans.specs.ToldScan.{IsTold, ToldScan}
 use Rattle.told_scans.specs.ToldScans.{AreOpenedFor, AreToldFrom, AreToldIn, LiesBetween, ToldRun, with_ended, with_scan}
 
-between_until : (settings : Settings) (place : ℕ) (before : FolderHistory) (scans : List ToldScan) (now : FolderHistory) → AreToldFrom settings before scans now → LiesBetween place before scans now →
+pub between_until : (settings : Settings) (place : ℕ) (before : FolderHistory) (scans : List ToldScan) (now : FolderHistory) → AreToldFrom settings before scans now → LiesBetween place before scans now →
     place < length now.events
 between_until settings place before [] now are lies = lies.1
 between_until settings place before (told ∷ scans) now are (inl here) =

@@ -15,7 +15,7 @@ use Rattle.told_scans.proofs.AskedEvents.{event_was, goes_on_asking}
 use Rattle.told_scans.proofs.Events.{closing_both}
 use Rattle.told_scans.proofs.Scanning.{are_at, no_opening}
 use Rattle.told_scans.proofs.ToldScans.{asks_alone}
-use Rattle.told_scans.specs.OnlyAsked.{WasOnlyAsked}
+use Rattle.told_scans.specs.OnlyAsked.{HasOnlyAsked, WasOnlyAsked}
 use Rattle.told_scans.specs.Partial.{AreAt}
 use Rattle.told_scans.specs.ToldScan.{AsksSo, IsTold, ToldScan, event_tried}
 
@@ -25,10 +25,10 @@ pub record AddsClosingNone (before after : FolderHistory) : Type 0 where
   pub events : after.events ≡ before.events ++ more
   pub closes_none : (opening : ℕ) → opening < length before.events → closing_in opening more ≡ None
 
-adds_nothing : (told : FolderHistory) → AddsClosingNone told told
+pub adds_nothing : (told : FolderHistory) → AddsClosingNone told told
 adds_nothing told = record { files = refl; more = []; events = sym (append-nil told.events); closes_none = λ opening within. refl }
 
-adds_by_two : (first mid last : FolderHistory) → AddsClosingNone first mid → AddsClosingNone mid last → AddsClosingNone first last
+pub adds_by_two : (first mid last : FolderHistory) → AddsClosingNone first mid → AddsClosingNone mid last → AddsClosingNone first last
 adds_by_two first mid last one next = record {
   files = next.files ∙ one.files;
   more = one.more ++ next.more;
@@ -39,7 +39,7 @@ adds_by_two first mid last one next = record {
       ∙ next.closes_none opening (let sum = length-append first.events one.more in let is = ap length one.events in omega (arith, within, sum, is));
 }
 
-adds_events : (told : FolderHistory) (more : List Event) → ((opening : ℕ) → opening < length told.events → closing_in opening more ≡ None) → AddsClosingNone told (with_events told more)
+pub adds_events : (told : FolderHistory) (more : List Event) → ((opening : ℕ) → opening < length told.events → closing_in opening more ≡ None) → AddsClosingNone told (with_events told more)
 adds_events told more none = record { files = refl; more = more; events = refl; closes_none = none }
 
 -- ---- a tail that was opened and closed again
@@ -51,7 +51,7 @@ closes_another opening of looks faults less = by_case (of == opening) refl
     by_case true is = absurd (let same = eqb-true of opening is in omega (arith, same, less))
     by_case false is = ap (λ (b : Bool). first_of_two (if b then Some (record { looks = looks; faults = faults }) else None) (closing_in opening [])) is
 
-adds_asked : (told after : FolderHistory) (path : List ℕ) (number : ℕ) (begun : Sight) (of : ℕ) (looks : List Look) (faults : ℕ) → of ≡ length told.events →
+pub adds_asked : (told after : FolderHistory) (path : List ℕ) (number : ℕ) (begun : Sight) (of : ℕ) (looks : List Look) (faults : ℕ) → of ≡ length told.events →
     after ≡ with_events told (Opened path number begun ∷ Closed of looks faults ∷ []) → AddsClosingNone told after
 adds_asked told after path number begun of looks faults at is =
     subst (AddsClosingNone told) (sym is)
@@ -77,7 +77,7 @@ module _ (inputs : List InputRule) where
   tried_adds (Answered asked) before after tries = answered_adds tries.rule asked.listed before after asked.answer tries.answered
   tried_adds (Faulted one) before after tries = failed_adds one.path before after tries.last tries.fails tries.kept
 
-  all_add : (trials : List Trial) (askings : List Asking) (before after : FolderHistory) → AsksSo inputs trials askings before after → AddsClosingNone before after
+  pub all_add : (trials : List Trial) (askings : List Asking) (before after : FolderHistory) → AsksSo inputs trials askings before after → AddsClosingNone before after
   all_add [] [] before after asks = subst (AddsClosingNone before) (sym asks) (adds_nothing before)
   all_add [] (asking ∷ askings) before after asks = absurd asks
   all_add (trial ∷ trials) [] before after asks = absurd asks
@@ -93,30 +93,38 @@ listings_close_none opening (Unserved glob ∷ attempts) = listings_close_none o
 
 -- ---- all of it
 
+pub listings_add : (before listed : FolderHistory) (attempts : List Attempt) → listed ≡ with_events before (map event_tried attempts) → AddsClosingNone before listed
+listings_add before listed attempts is =
+    subst (AddsClosingNone before) (sym is) (adds_events before (map event_tried attempts) (λ opening within. listings_close_none opening attempts))
+
 pub scan_adds : (told : ToldScan) → IsTold told → AddsClosingNone told.earlier told.scanned
 scan_adds told has =
-    adds_by_two told.earlier told.listed told.scanned
-    (subst (AddsClosingNone told.earlier) (sym has.listed_is) (adds_events told.earlier (map event_tried has.attempts) (λ opening within. listings_close_none opening has.attempts)))
+    adds_by_two told.earlier told.listed told.scanned (listings_add told.earlier told.listed has.attempts has.listed_is)
     (all_add told.settings.inputs has.trials told.askings told.listed told.scanned has.asks)
 
 -- each tail that it opened was only asked
+module _ (before listed after : FolderHistory) (attempts : List Attempt) (listed_is : listed ≡ with_events before (map event_tried attempts)) (asks : HasOnlyAsked listed after) where
+  pub asked_after_listings : (opening : ℕ) (path : List ℕ) (number : ℕ) (begun : Sight) → length before.events ≤ opening →
+      slice_get after.events opening ≡ Some (Opened path number begun) → WasOnlyAsked after opening
+  asked_after_listings opening path number begun since is = by_place (cases_lt opening (length listed.events))
+    where
+      listed_events : List Event
+      listed_events = map event_tried attempts
+
+      listed_are : listed.events ≡ before.events ++ listed_events
+      listed_are = ap (λ (h : FolderHistory). h.events) listed_is
+
+      at : AreAt listed.events (length before.events) listed_events
+      at = subst (λ (l : List Event). AreAt l (length before.events) listed_events) (sym listed_are)
+          (subst (λ (l : List Event). AreAt (before.events ++ l) (length before.events) listed_events) (append-nil listed_events) (are_at listed_events before.events []))
+
+      by_place : (opening < length listed.events) ⊎ (length listed.events ≤ opening) → WasOnlyAsked after opening
+      by_place (inl within) =
+          let long = ap length listed_are ∙ length-append before.events listed_events in
+          absurd (no_opening listed.events attempts (length before.events) opening path number begun at since (omega (arith, within, long))
+          (event_was listed after (goes_on_asking listed after asks) opening (Opened path number begun) within is))
+      by_place (inr behind) = asks.only_asked opening path number begun behind is
+
 pub asked_in_scan : (told : ToldScan) → IsTold told → (opening : ℕ) (path : List ℕ) (number : ℕ) (begun : Sight) → length told.earlier.events ≤ opening →
     slice_get told.scanned.events opening ≡ Some (Opened path number begun) → WasOnlyAsked told.scanned opening
-asked_in_scan told has opening path number begun since is = by_place (cases_lt opening (length told.listed.events))
-  where
-    listed_events : List Event
-    listed_events = map event_tried has.attempts
-
-    listed_are : told.listed.events ≡ told.earlier.events ++ listed_events
-    listed_are = ap (λ (h : FolderHistory). h.events) has.listed_is
-
-    at : AreAt told.listed.events (length told.earlier.events) listed_events
-    at = subst (λ (l : List Event). AreAt l (length told.earlier.events) listed_events) (sym listed_are)
-        (subst (λ (l : List Event). AreAt (told.earlier.events ++ l) (length told.earlier.events) listed_events) (append-nil listed_events) (are_at listed_events told.earlier.events []))
-
-    by_place : (opening < length told.listed.events) ⊎ (length told.listed.events ≤ opening) → WasOnlyAsked told.scanned opening
-    by_place (inl within) =
-        let long = ap length listed_are ∙ length-append told.earlier.events listed_events in
-        absurd (no_opening told.listed.events has.attempts (length told.earlier.events) opening path number begun at since (omega (arith, within, long))
-        (event_was told.listed told.scanned (goes_on_asking told.listed told.scanned (asks_alone told has)) opening (Opened path number begun) within is))
-    by_place (inr behind) = (asks_alone told has).only_asked opening path number begun behind is
+asked_in_scan told has = asked_after_listings told.earlier told.listed told.scanned has.attempts has.listed_is (asks_alone told has)

@@ -38,6 +38,25 @@ between_later place before [] now later lies = ⊎_elim (λ less. inl (lies.0, l
 between_later place before (told ∷ scans) now later (inl here) = inl (inl here)
 between_later place before (told ∷ scans) now later (inr rest) = ⊎_elim (λ lies. inl (inr lies)) inr (between_later place told.scanned scans now later rest)
 
+-- what lay between them does so when more is done, and when one more scan is made
+pub between_on : (place : ℕ) (before : FolderHistory) (scans : List ToldScan) (now later : FolderHistory) → length now.events ≤ length later.events → LiesBetween place before scans now →
+    LiesBetween place before scans later
+between_on place before [] now later on lies = let less = lies.1 in (lies.0, omega (arith, on, less))
+between_on place before (told ∷ scans) now later on (inl here) = inl here
+between_on place before (told ∷ scans) now later on (inr rest) = inr (between_on place told.scanned scans now later on rest)
+
+pub between_scanned : (place : ℕ) (before : FolderHistory) (scans : List ToldScan) (told : ToldScan) → LiesBetween place before scans told.earlier →
+    LiesBetween place before (scans ++ told ∷ []) told.scanned
+between_scanned place before [] told lies = inl lies
+between_scanned place before (first ∷ scans) told (inl here) = inl here
+between_scanned place before (first ∷ scans) told (inr rest) = inr (between_scanned place first.scanned scans told rest)
+
+-- what was done after all of them
+pub between_last : (settings : Settings) (place : ℕ) (before : FolderHistory) (scans : List ToldScan) (now later : FolderHistory) → AreToldFrom settings before scans now →
+    length now.events ≤ place → place < length later.events → LiesBetween place before scans later
+between_last settings place before [] now later are since less = let long = longer before now (goes_on_unlisted before now are) in (omega (arith, long, since), less)
+between_last settings place before (told ∷ scans) now later are since less = inr (between_last settings place told.scanned scans now later are.1 since less)
+
 -- a scan at the end has none between it and itself
 pub between_appended : (place : ℕ) (before : FolderHistory) (scans : List ToldScan) (told : ToldScan) → LiesBetween place before (scans ++ told ∷ []) told.scanned →
     LiesBetween place before scans told.earlier
@@ -90,7 +109,7 @@ module _ (settings : Settings) where
 
   -- ---- none lies in both
 
-  between_since : (place : ℕ) (before : FolderHistory) (scans : List ToldScan) (now : FolderHistory) → AreToldFrom settings before scans now → LiesBetween place before scans now →
+  pub between_since : (place : ℕ) (before : FolderHistory) (scans : List ToldScan) (now : FolderHistory) → AreToldFrom settings before scans now → LiesBetween place before scans now →
       length before.events ≤ place
   between_since place before [] now are lies = lies.0
   between_since place before (told ∷ scans) now are (inl here) = here.0

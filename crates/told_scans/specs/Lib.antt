@@ -1,3 +1,4 @@
+pub mod CutOff
 pub mod Exact
 pub mod FolderOn
 pub mod OnlyAsked
