@@ -1,9 +1,11 @@
 -- What the folder's list tells of a tail as it is closed.
-use Rattle.std.proofs.Common.{◌≡◌, ℕ, suc, ◌<◌, ◌==◌, Bool, true, false, drop, List, [], ◌∷◌, ◌++◌, length, Option, Some, None, refl, ap, ◌∙◌, arith, if◌then◌else◌}
+use Rattle.std.proofs.Common.{◌≡◌, ℕ, suc, ◌<◌, ◌==◌, Bool, true, false, drop, List, [], ◌∷◌, ◌++◌, length, Option, Some, None, IfSome, refl, sym, ap, subst, ◌∙◌, arith, if◌then◌else◌}
 use Rattle.std.proofs.lemmas.Bool.{eqb-true}
 use Rattle.std.proofs.lemmas.List.{drop-append-le}
 use Rattle.kept_rows.specs.Trace.{Closing, closing_in, first_of_two}
+use Rattle.accounts.specs.Opened.{IsTailOf, Opened}
 use Rattle.outside.specs.Folders.{Closed, Event, FolderHistory}
+use Rattle.outside.specs.Tails.{TailHistory}
 use Rattle.outside.specs.declared.history.Look.{Look}
 use Rattle.told_scans.specs.OnlyAsked.{WasClosedWith}
 use Rattle.run_steps.specs.Shown.{IsStillOpen}
@@ -35,6 +37,12 @@ module _ (before : FolderHistory) (more : List Event) where
     faults = closed.faults;
     closing = behind opening within ∙ ap (λ (o : Option Closing). first_of_two o (closing_in opening more)) closed.closing;
   }
+
+  -- the tail of this opening, if it told that
+  pub closed_as_it_was : (file : Opened) → file.opening < length before.events → (o : Option TailHistory) → IfSome o (IsTailOf file) → IfSome o (λ tail. WasClosedWith before tail.opening tail.looks) →
+      IfSome o (λ tail. WasClosedWith after tail.opening tail.looks)
+  closed_as_it_was file within None of closed = tt
+  closed_as_it_was file within (Some tail) of closed = closed_still tail.opening tail.looks (subst (λ (n : ℕ). n < length before.events) (sym of.opening) within) closed
 
   -- one that was open is closed by the first of these that closes it
   pub closed_now : (opening : ℕ) (looks : List Look) (faults : ℕ) → opening < length before.events → IsStillOpen before opening →

@@ -54,16 +54,16 @@ gives_again (Some moments) after moment (inr grows) = subst (λ (o : Option (Lis
 
 module _ {T W L D : Type 0} (words : Words T W L D) (start : Began D) (moments : Option (List ℕ)) (crew : Crew T W L) (keeper : Keeping) (a b : D) (phase : Phase)
     (shown : Option FolderHistory) (so_far : SoFar) (now : ℕ) where
-  abbrev here : RunState T W L D
+  abbrev pub here : RunState T W L D
   here = record { shown = shown; moments = moments; crew = crew; keeper = keeper; a = a; b = b; phase = phase }
 
   -- it ends with it
-  record StandsAt : Type 0 where
-    more : List ℕ
-    ends : EndsAt (so_far.moments ++ more) now
-    stands : Stands words start here (record so_far { moments = so_far.moments ++ more })
+  pub record StandsAt : Type 0 where
+    pub more : List ℕ
+    pub ends : EndsAt (so_far.moments ++ more) now
+    pub stands : Stands words start here (record so_far { moments = so_far.moments ++ more })
 
-  stands_at : Stands words start here so_far → GivesMoment moments now moments → StandsAt
+  pub stands_at : Stands words start here so_far → GivesMoment moments now moments → StandsAt
   stands_at stands gives = record {
     more = given.more;
     ends = given.ends;

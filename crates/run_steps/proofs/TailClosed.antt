@@ -58,7 +58,7 @@ use Rattle.run_steps.specs.Stands.{AreAnswered, AreEachOnce, Books, BooksNow, Fi
 use Rattle.run_steps.proofs.AreRead.{read_now, read_still}
 use Rattle.run_steps.proofs.Admitting.{booked_by, often_mapped, placed_by, spans_often}
 use Rattle.run_steps.proofs.Causing.{some_parted}
-use Rattle.run_steps.proofs.Closing.{closed_now, closed_still, closes_its, closes_no_other, open_still}
+use Rattle.run_steps.proofs.Closing.{closed_as_it_was, closed_now, closed_still, closes_its, closes_no_other, open_still}
 use Rattle.accounts.proofs.Joining.{same_slot, tells_slots}
 use Rattle.run_steps.proofs.First.{got_within}
 use Rattle.run_steps.proofs.Grounds.{all_backed}
@@ -286,14 +286,9 @@ module _ {T W L D : Type 0} (words : Words T W L D) (start : Began D) (moments :
 
         -- one that was closed stays so
         closed_as_before : (tells : Option TailHistory) (l : Left) (file : Opened) → Contains (openings_within (files_of so_far)) file → IfSome l.told (IsTailOf file) → WasClosedAs now l → WasClosedAs (then_told tells) l
-        closed_as_before tells l file among tail_of was = by_case l.told tail_of was
-          where
-            by_case : (o : Option TailHistory) → IfSome o (IsTailOf file) → IfSome o (λ tail. WasClosedWith now tail.opening tail.looks) → IfSome o (λ tail. WasClosedWith (then_told tells) tail.opening tail.looks)
-            by_case None of closed = tt
-            by_case (Some tail) of closed =
-                let stands = (member_is (WasOpenedSince first (told_in so_far.scans) now) (openings_within (files_of so_far)) file done.opened among).stands in
-                let within = got_within now.events file.opening (folders.Opened file.begin.path file.number file.begun) stands in
-                closed_still now (events tells) tail.opening tail.looks (subst (λ (n : ℕ). n < length now.events) (sym of.opening) within) closed
+        closed_as_before tells l file among =
+            let stands = (member_is (WasOpenedSince first (told_in so_far.scans) now) (openings_within (files_of so_far)) file done.opened among).stands in
+            closed_as_it_was now (events tells) file (got_within now.events file.opening (folders.Opened file.begin.path file.number file.begun) stands) l.told
 
         closed_before : (tells : Option TailHistory) (l : Left) → Contains so_far.left l → WasClosedAs (then_told tells) l
         closed_before tells l there =

@@ -44,6 +44,7 @@ pub mod RegistryErrors
 pub mod Releasing
 pub mod Renamed
 pub mod Reopening
+pub mod ReopeningSteps
 pub mod RescanErrors
 pub mod RunEnds
 pub mod RunOf

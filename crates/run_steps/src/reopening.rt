@@ -1,4 +1,5 @@
-ghost use Rattle.std.specs.Prelude.{◌≡◌, ◌<◌, ◌≤◌, IfSome, OnErr, OnOk, length};
+ghost use Rattle.std.specs.Prelude.{◌≡◌, ◌<◌, IfSome, IsNone, OnErr, OnOk, length};
+ghost use Rattle.restart_join.specs.declared.start.TheConstants.{MAX_EPOCH};
 ghost use Rattle.rounds.specs.WordsOf.{tails_of};
 ghost use Rattle.run_steps.specs.Beginning.{beginning};
 ghost use Rattle.run_steps.specs.Reopening.{AnnouncesRise, FollowsAgain, FollowsListedAgain, GivesUpAgain, IsReopenable, ReopensOne, TakesInAgain, goes_on_at, reopened_of};
@@ -30,7 +31,8 @@ pub struct Reopening<'a> {
 /// Where a file goes on that was told up to this place of its epoch, and is listed with this size: there, or from its first byte in
 /// the next epoch. `None` means that it needs an epoch above the last.
 pub fn goes_on(told: Start, size: u64) -> Option<Start>
-    ensures { IfSome result (λ start. start ≡ goes_on_at told size) }
+    ensures start { IfSome result (λ start. start ≡ goes_on_at told size) }
+    ensures spent { IsNone result → (size < told.base) × (told.epoch ≡ MAX_EPOCH) }
 {
     if told.base <= size {
         return Some(told);
