@@ -1,7 +1,7 @@
 -- What a run does with one of its files between two rounds is a step of it: lanes hear of the file, and the keeper is told of it.
 use Rattle.std.proofs.Common.{◌≡◌, inl, inr, ⊎_elim, ℕ, ◌≤◌, List, [], ◌∷◌, ◌++◌, Contains, append-nil, append_assoc, false, length, IfSome, None, Vec, refl, sym, ap, subst, ◌∙◌, arith}
 use Rattle.std.proofs.lemmas.List.{length-map}
-use Rattle.std.proofs.lemmas.List.Elements.{All-contains_itself, All-from_recursion, recursion_from_All, Contains-append_right}
+use Rattle.std.proofs.lemmas.List.Elements.{All-from_recursion, Contains-append_right, recursion_from_All}
 use Rattle.std.specs.declared.alloc.Global.{Global}
 use Rattle.std.specs.List.{AllByRecursion}
 use Rattle.accounts.specs.Opened.{Opened}
@@ -35,12 +35,13 @@ use Rattle.run_steps.specs.CarriersFail.{sending}
 use Rattle.run_steps.specs.ChangeSteps.{EndsAreChanges, EndsAreSteps, IsChange, IsReadyAt, IsSupposedAt, RenamesAreChanges, StandsWith, StirsAreSteps, lanes_and_keeper, with_keeper, with_lanes}
 use Rattle.run_steps.specs.Changing.{ChangesAt, ChangesOf, EndsFile, NamesFile, rename_note}
 use Rattle.run_steps.specs.Goes.{Goes, Keeps, RestsAt, StepWords, Stop, moments_at, state_at}
+use Rattle.run_steps.specs.LaterScans.{LaterScan}
 use Rattle.run_steps.specs.MetBy.{HasFaults, SomeHarvester}
 use Rattle.run_steps.specs.Onward.{Onward, rules_of}
 use Rattle.run_steps.specs.Readiness.{IsAbleIn}
 use Rattle.run_steps.specs.Releasing.{harvesters_of}
 use Rattle.run_steps.specs.Renamed.{IsNamedAnew, IsNewestName, IsRemovedSince}
-use Rattle.run_steps.specs.SoFar.{SoFar, all_told, files_of, first_opened, opened_before}
+use Rattle.run_steps.specs.SoFar.{Earlier, SoFar, all_told, first_opened, opened_before}
 use Rattle.run_steps.specs.Stands.{Stands, watch_of}
 use Rattle.run_steps.specs.Telling.{TellsNotes}
 use Rattle.run_steps.specs.declared.changing.NewName.{NewName}
@@ -51,9 +52,11 @@ use Rattle.run_steps.proofs.ChangedLanes.{after, as_many, as_many_harvesters, be
 use Rattle.run_steps.proofs.ChangedTurns.{ended_on, renamed_on, stirred_on}
 use Rattle.run_steps.proofs.Clocks.{clock_stays}
 use Rattle.run_steps.proofs.FailingRounds.{fail_by_nothing}
+use Rattle.run_steps.proofs.GoesOn.{keeps_by_two}
 use Rattle.run_steps.proofs.Grounds.{have_ground}
 use Rattle.run_steps.proofs.Having.{have_still, some_still}
 use Rattle.run_steps.proofs.LettingGo.{with_these}
+use Rattle.run_steps.proofs.Notes.{none_told, told_behind}
 use Rattle.run_steps.proofs.OneOfSlot.{lanes_once, still_stirred}
 use Rattle.run_steps.proofs.ReadersGo.{none_added}
 use Rattle.run_steps.proofs.FirstOpened.{first_named, first_within}
@@ -130,17 +133,6 @@ module _ {T : Type 0} (tails : TailWords T) where
   hear_renamed number slot path old new change =
       let is = change.changes.changes in
       hear_one old new change (ap (λ (h : Harvester T). h.tail) is.keeps.others) is.keeps.begin_kept (λ known. (with_path path known.0, is.renamed known.0 known.1))
-
--- ---- the keeper
-
-tells_none : (keeper : Keeping) → TellsNotes [] keeper keeper
-tells_none keeper = record {
-  told = sym (append-nil keeper.tracked.notes);
-  opening_stays = refl;
-  committed_stays = refl;
-  gone_stays = All-contains_itself keeper.tracked.gone;
-  others_stay = refl;
-}
 
 -- ---- what the step keeps
 
@@ -236,7 +228,7 @@ module _ {T W L D F K B : Type 0} (words : StepWords T W L D F K B) (context : C
         (record { folder = words.seen now.system.folder.now; lanes = new }) refl change reads_now (ap (λ (h : Harvester T). h.tail) is) (ap begin_of is)
         (stirred_on words.all.tails start so_far.scans so_far.opened so_far.moments change.changes.before change.changes.after is)
 
-    ended_reads : (slot : Slot) → EndsFile words.all.tails slot old_lanes new_lanes → IsRemovedSince slot (files_of so_far) → StillReads so_far new_lanes
+    ended_reads : (slot : Slot) → EndsFile words.all.tails slot old_lanes new_lanes → IsRemovedSince slot so_far.scans so_far.earlier so_far.opened → StillReads so_far new_lanes
     ended_reads slot ends removed =
         let first = stirred_reads slot ends.mid ends.stirred in
         let is = ends.ended.changes.changes in
@@ -249,7 +241,7 @@ module _ {T W L D F K B : Type 0} (words : StepWords T W L D F K B) (context : C
         (still_stirred old_lanes ends.mid new_lanes ends.stirred ends.ended once) removed is) in
         record { lanes = then.lanes; reads = then.reads }
 
-    renamed_reads : (slot : Slot) (name : Name) → IsNamedAnew slot name (files_of so_far) → ChangesOf slot (HasRenamed words.all.tails.numbers words.all.tails.told name.path) old_lanes new_lanes → StillReads so_far new_lanes
+    renamed_reads : (slot : Slot) (name : Name) → IsNamedAnew slot name so_far.scans so_far.earlier so_far.opened → ChangesOf slot (HasRenamed words.all.tails.numbers words.all.tails.told name.path) old_lanes new_lanes → StillReads so_far new_lanes
     renamed_reads slot name named change =
         let is = change.changes.changes in
         reads_still words.all start (moments_at words now) now.crew.carriers.items (notes old_keeper.pass.got) now.phase so_far (record { folder = words.seen now.system.folder.now; lanes = old_lanes })
@@ -267,7 +259,7 @@ module _ {T W L D F K B : Type 0} (words : StepWords T W L D F K B) where
   unfolding Onward
   stirs_are_steps context slot now lanes ready change = record {
     keeps = keeps_heard words context now lanes now.storing.keeper.now [] (hear_stirred words.all.tails _ slot (lanings now.crew.lanes.items) (lanings lanes.items) change)
-        (tells_none now.storing.keeper.now) ready {Keepers = Collects} (collects_none now.storing.keeper.now);
+        (none_told now.storing.keeper.now) ready {Keepers = Collects} (collects_none now.storing.keeper.now);
     onward = onward;
   }
     where
@@ -283,7 +275,7 @@ module _ {T W L D F K B : Type 0} (words : StepWords T W L D F K B) where
 
     ends_change : IsChange words context (IsRemovedSince slot) [] now (with_lanes now lanes)
     ends_change = record {
-      keeps = keeps_heard words context now lanes now.storing.keeper.now [] hear_ends (tells_none now.storing.keeper.now) ready {Keepers = TellsNotes []} (tells_none now.storing.keeper.now);
+      keeps = keeps_heard words context now lanes now.storing.keeper.now [] hear_ends (none_told now.storing.keeper.now) ready {Keepers = TellsNotes []} (none_told now.storing.keeper.now);
       changed = λ start so_far by stands removed.
           let still = ended_reads words context now lanes start so_far stands slot ends removed in
           record {
@@ -296,7 +288,7 @@ module _ {T W L D F K B : Type 0} (words : StepWords T W L D F K B) where
     ends_go : IsSupposedAt words context (IsRemovedSince slot) now → Goes words context None now (with_lanes now lanes)
     unfolding Onward
     ends_go known = record {
-      keeps = keeps_heard words context now lanes now.storing.keeper.now [] hear_ends (tells_none now.storing.keeper.now) ready {Keepers = Collects} (collects_none now.storing.keeper.now);
+      keeps = keeps_heard words context now lanes now.storing.keeper.now [] hear_ends (none_told now.storing.keeper.now) ready {Keepers = Collects} (collects_none now.storing.keeper.now);
       onward = onward;
     }
       where
@@ -327,7 +319,7 @@ module _ {T W L D F K B : Type 0} (words : StepWords T W L D F K B) where
       hear = ⊎_elim (λ change. hear_renamed words.all.tails _ name.slot name.path olds news change)
           (λ none. subst (HearOnly words.all.tails olds) (sym none.1) (hear_nothing words.all.tails olds)) names.renames
 
-      changed : (start : Began D) (so_far : SoFar) → Stands words.all start (state_at words now) so_far → IsNamedAnew name.slot as_name (files_of so_far) →
+      changed : (start : Began D) (so_far : SoFar) → Stands words.all start (state_at words now) so_far → IsNamedAnew name.slot as_name so_far.scans so_far.earlier so_far.opened →
           StandsWith words context start (with_keeper (with_lanes now lanes) keeper) so_far (rename_note name ∷ [])
       changed start so_far stands named =
           let still = ⊎_elim (λ change. renamed_reads words context now lanes start so_far stands name.slot as_name named change)
@@ -355,3 +347,19 @@ module _ {T W L D F K B : Type 0} (words : StepWords T W L D F K B) where
 
     pub renames_are_changes : RenamesAreChanges words
     renames_are_changes context name now lanes keeper ready names = renames_change context name now lanes keeper ready names
+
+-- ---- two in a row
+
+module _ {T W L D F K B : Type 0} (words : StepWords T W L D F K B) (context : Context) where
+  pub changes_by_two : (First Second : List LaterScan → List Earlier → List Opened → Type 0) (told more : List Note) (first mid last : Stop T W L D F K B) → IsChange words context First told first mid →
+      IsChange words context Second more mid last → IsChange words context (λ scans earlier opened. First scans earlier opened × Second scans earlier opened) (told ++ more) first last
+  changes_by_two First Second told more first mid last one then = record {
+    keeps = keeps_by_two (told_behind told more) one.keeps then.keeps;
+    changed = λ start so_far by stands supposed.
+        let by_one = one.changed start so_far by stands supposed.0 in
+        let by_both = then.changed start (record so_far { lanes = by_one.lanes; begun = so_far.begun ++ told }) by by_one.stands supposed.1 in
+        record {
+          lanes = by_both.lanes;
+          stands = subst (λ (l : List Note). Stands words.all start (state_at words last) (record so_far { lanes = by_both.lanes; begun = l })) (append_assoc so_far.begun told more) by_both.stands;
+        };
+  }

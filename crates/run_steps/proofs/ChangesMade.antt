@@ -1,5 +1,5 @@
 -- The lane of a slot among the others, of which a harvester of the slot changed.
-use Rattle.std.proofs.Common.{◌≡◌, ℕ, zero, suc, ◌<◌, ◌%◌, All, Bool, true, false, List, [], ◌∷◌, get_or, slice_set, length, Some, refl, ap, subst, sym, ◌∙◌, arith}
+use Rattle.std.proofs.Common.{◌≡◌, ◌⊎◌, inl, inr, ℕ, zero, suc, ◌<◌, ◌%◌, All, Bool, true, false, List, [], ◌∷◌, get_or, slice_set, length, Some, refl, ap, subst, sym, ◌∙◌, arith}
 use Rattle.std.specs.Prelude.{slice_get}
 use Rattle.std.proofs.lemmas.List.{length-map}
 use Rattle.std.proofs.Math.Nat.{mod-lt}
@@ -80,6 +80,12 @@ module _ {T : Type 0} (slot : Slot) (lanes : List (Lane T)) (spare new : Lane T)
   pub on_kept : (result : Bool) → OnFalse result (laning new ≡ laning was) → OnFalse result (lanings (slice_set lanes index new) ≡ lanings lanes)
   on_kept true is = tt
   on_kept false is = set_same lanes index spare new inside is
+
+  pub if_there : (Changes : Harvester T → Harvester T → Type 0) (result : Bool) → OnTrue result (ChangesOne slot Changes (laning was) (laning new)) →
+      OnFalse result (All (IsOfAnother slot) (laning was).harvesters) → OnFalse result (laning new ≡ laning was) →
+      ChangesOf slot Changes (lanings lanes) (lanings (slice_set lanes index new)) ⊎ (HasNone slot (lanings lanes) × (lanings (slice_set lanes index new) ≡ lanings lanes))
+  if_there Changes true is none kept = inl (changed_at Changes is)
+  if_there Changes false is none kept = inr (none_at none, on_kept false kept)
 
   -- behind one that was stirred there is one
   pub on_stirred : (Changes : Harvester T → Harvester T → Type 0) (old : List (Laning T)) → length old ≡ length (lanings lanes) → ChangesOf slot HasStirred old (lanings lanes) → (result : Bool) →

@@ -53,7 +53,7 @@ use Rattle.told_scans.proofs.ToldScans.{nothing_appended}
 use Rattle.run_steps.specs.LaterScans.{told_in}
 use Rattle.told_scans.proofs.ScansPlaced.{between_on}
 use Rattle.run_steps.specs.Shown.{HasDone, HasShown, IsStillOpen, WasClosedAs, WasOpenedSince, openings_of}
-use Rattle.run_steps.specs.SoFar.{Earlier, FilesSoFar, Left, SoFar, all_told, books_of, files_in, files_of, files_within, notes_of, opened_before, openings_within, told_before}
+use Rattle.run_steps.specs.SoFar.{Earlier, Left, SoFar, all_told, books_of, files_in, files_of, notes_of, opened_before, openings_within, told_before}
 use Rattle.run_steps.specs.Stands.{AreAnswered, AreEachOnce, Books, BooksNow, Files, FilesNow, HaveGiven, IsLeftRead, IsLeftSo, MayTell, ReadsYet, watch_of}
 use Rattle.run_steps.proofs.AreRead.{read_now, read_still}
 use Rattle.run_steps.proofs.Admitting.{booked_by, often_mapped, placed_by, spans_often}
@@ -100,8 +100,7 @@ one_opened (first ∷ opened) one other apart there also same =
   where
     by_case : (first ≡ one) ⊎ Contains opened one → (first ≡ other) ⊎ Contains opened other → (Contains opened one → Contains opened other → one ≡ other) → one ≡ other
     by_case (inl x) (inl y) later = sym x ∙ y
-    by_case (inl x) (inr y) later =
-        absurd (apart.0 (subst (λ (n : ℕ). Contains (openings_of opened) n) (sym (ap (λ (o : Opened). o.opening) x ∙ same)) (mapped_there (λ (o : Opened). o.opening) opened other y)))
+    by_case (inl x) (inr y) later = absurd (apart.0 (subst (λ (n : ℕ). Contains (openings_of opened) n) (sym (ap (λ (o : Opened). o.opening) x ∙ same)) (mapped_there (λ (o : Opened). o.opening) opened other y)))
     by_case (inr x) (inl y) later =
         absurd (apart.0 (subst (λ (n : ℕ). Contains (openings_of opened) n) (sym (ap (λ (o : Opened). o.opening) y ∙ sym same)) (mapped_there (λ (o : Opened). o.opening) opened one x)))
     by_case (inr x) (inr y) later = later x y

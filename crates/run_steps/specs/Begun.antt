@@ -1,5 +1,5 @@
--- How files are begun in a run that reads them once (this project's profile): the one of a slot is the one that was
--- listed at its place, from where its row stood on. Its Begin is the keeper's first note of it, and then comes the moment of its change.
+-- How files are begun (this project's profile): the one of a slot is the one that was listed at its place, from where its row stood on.
+-- Its Begin and the moment of its change are told to the keeper, and so are the paths by which later scans list it.
 -- Slots of hidden rows stand behind those of the files.
 use Rattle.std.specs.Prelude.{◌≡◌, ◌⊎◌, ℕ, ◌+◌, ◌≤◌, ◌<◌, List, [], ◌∷◌, Contains, slice_get, Some, IfSome}
 use Rattle.std.specs.List.{AllByRecursion}

@@ -1,23 +1,24 @@
 -- What a run does with one of its files between two rounds, as a step of it (this project's profile): by which notes it tells its keeper of it, and what
--- it supposes of the scans so far and of the files that were opened. What stood before it stands after it, with the histories of its lanes as they
--- are then, and with those notes. Two such steps in a row are one; if it tells nothing, and what it supposes is known, it is a step as each other one.
+-- it supposes of the scans so far and of the files that were opened. What stood before it stands after it, with those notes, and with some histories
+-- of its lanes. If it tells nothing, and what it supposes is known of whatever stands, it is a step as each other one.
 use Rattle.std.specs.Prelude.{List, [], ◌∷◌, ◌++◌, Vec, None}
 use Rattle.std.specs.declared.alloc.Global.{Global}
+use Rattle.accounts.specs.Opened.{Opened}
 use Rattle.accounts.specs.Turned.{Turned}
 use Rattle.keeper.specs.Keeping.{Keeping}
-use Rattle.lanes.specs.Changing.{HasStirred}
 use Rattle.lanes.specs.declared.lane.Lane.{Lane}
 use Rattle.rounds.specs.Crewed.{lanings}
 use Rattle.rounds.specs.Crewing.{crewing}
 use Rattle.wire_base.specs.declared.note.Note.{Note}
 use Rattle.wire_base.specs.declared.numbers.Slot.{Slot}
 use Rattle.run_steps.specs.Began.{Began}
-use Rattle.run_steps.specs.Changing.{ChangesOf, EndsFile, LanesAndKeeper, NamesFile, rename_note}
+use Rattle.run_steps.specs.Changing.{EndsFile, LanesAndKeeper, NamesFile, StirsFile, rename_note}
 use Rattle.run_steps.specs.Goes.{Goes, Keeps, StepWords, Stop, state_at}
+use Rattle.run_steps.specs.LaterScans.{LaterScan}
 use Rattle.run_steps.specs.Onward.{BeganBy, rules_of}
 use Rattle.run_steps.specs.Readiness.{IsReadyIn}
 use Rattle.run_steps.specs.Renamed.{IsNamedAnew, IsRemovedSince}
-use Rattle.run_steps.specs.SoFar.{FilesSoFar, SoFar, files_of}
+use Rattle.run_steps.specs.SoFar.{Earlier, SoFar}
 use Rattle.run_steps.specs.Stands.{Stands}
 use Rattle.run_steps.specs.Telling.{TellsNotes}
 use Rattle.run_steps.specs.declared.changing.NewName.{NewName}
@@ -41,15 +42,15 @@ module _ {T W L D F K B : Type 0} (words : StepWords T W L D F K B) (context : C
     pub lanes : List (List Turned)
     pub stands : Stands words.all start (state_at words now) (record so_far { lanes = lanes; begun = so_far.begun ++ notes })
 
-  pub record IsChange (Supposes : FilesSoFar → Type 0) (notes : List Note) (before after : Stop T W L D F K B) : Type 0 where
+  pub record IsChange (Supposes : List LaterScan → List Earlier → List Opened → Type 0) (notes : List Note) (before after : Stop T W L D F K B) : Type 0 where
     pub keeps : Keeps words context (TellsNotes notes) None before after
     pub changed : (start : Began D) (so_far : SoFar) → BeganBy (rules_of context) start → Stands words.all start (state_at words before) so_far →
-        Supposes (files_of so_far) → StandsWith start after so_far notes
+        Supposes so_far.scans so_far.earlier so_far.opened → StandsWith start after so_far notes
 
   -- what it supposes is known
-  abbrev pub IsSupposedAt : (FilesSoFar → Type 0) → Stop T W L D F K B → Type 0
+  abbrev pub IsSupposedAt : (List LaterScan → List Earlier → List Opened → Type 0) → Stop T W L D F K B → Type 0
   IsSupposedAt Supposes now = (start : Began D) (so_far : SoFar) → BeganBy (rules_of context) start → Stands words.all start (state_at words now) so_far →
-      Supposes (files_of so_far)
+      Supposes so_far.scans so_far.earlier so_far.opened
 
   abbrev pub IsReadyAt : Stop T W L D F K B → Type 0
   IsReadyAt now = IsReadyIn words.all.tails context (crewing now.crew now.storing)
@@ -58,7 +59,7 @@ module _ {T W L D F K B : Type 0} (words : StepWords T W L D F K B) where
   -- a file of which something was heard
   abbrev pub StirsAreSteps : Type 0
   StirsAreSteps = (context : Context) (slot : Slot) (now : Stop T W L D F K B) (lanes : Vec (Lane T) Global) → IsReadyAt words context now →
-      ChangesOf slot HasStirred (lanings now.crew.lanes.items) (lanings lanes.items) → Goes words context None now (with_lanes now lanes)
+      StirsFile slot (lanings now.crew.lanes.items) (lanings lanes.items) → Goes words context None now (with_lanes now lanes)
 
   -- one that was removed
   abbrev pub EndsAreChanges : Type 0

@@ -37,11 +37,15 @@ pub record HasNone {T : Type 0} (slot : Slot) (lanes : List (Laning T)) : Type 0
 
 -- ---- what it is told
 
+-- something was heard of it, so it is not at rest
+abbrev pub StirsFile : {T : Type 0} → Slot → List (Laning T) → List (Laning T) → Type 0
+StirsFile slot old new = ChangesOf slot HasStirred old new
+
 module _ {T : Type 0} (tails : TailWords T) (slot : Slot) (old new : List (Laning T)) where
   -- its turns may find the end of its file, which is not forgotten then, and it is not at rest
   pub record EndsFile : Type 0 where
     pub mid : List (Laning T)
-    pub stirred : ChangesOf slot HasStirred old mid
+    pub stirred : StirsFile slot old mid
     pub ended : ChangesOf slot (HasEnding tails.numbers tails.told false) mid new
 
   -- the one of the slot, if there is one, tells later events with this path

@@ -30,7 +30,7 @@ use Rattle.run_steps.specs.declared.reopening.Reopening.{Reopening}
 abbrev pub goes_on_at : Start → ℕ → Start
 goes_on_at told size = if nat_le told.base size then told else record { epoch = told.epoch + 1; base = 0 }
 
--- the file as it was listed last, and the epoch that was told last
+-- the file as it was listed last, and the epoch in which its last tail was closed
 pub record KnownFile : Type 0 where
   pub file : ListedFile
   pub last : Epoch
@@ -38,7 +38,7 @@ pub record KnownFile : Type 0 where
 abbrev pub reopened_of : Reopening → KnownFile
 reopened_of reopening = record { file = file_of reopening.opening; last = reopening.last }
 
--- the settings and what was listed are in their ranges, and there is a lane
+-- the settings and what was listed are in their ranges, there is a lane, and the file goes on within its size
 pub record IsReopenable {T W L : Type 0} (settings : Settings) (known : KnownFile) (crew : Crew T W L) : Type 0 where
   pub settings_in_range : AreInRange settings
   pub in_range : IsListedInRange known.file.listed

@@ -1,6 +1,6 @@
 -- Opening a file again as a step of a run (this project's profile): only the folder, the lanes and the keeper are used, at the moment that the clock gave
--- last, in a run that goes on whatever was told of its files. What stood before it stands after it: with one more opening before the last ones if
--- the file is followed, else unchanged.
+-- last, in a run that goes on whatever was told of its files. What stood before it stands after it, with the moment among those of the run: with one
+-- more opening before the last ones if the file is followed, and no other change if it is skipped or fails. If the call ends, something stands.
 use Rattle.std.specs.Prelude.{◌≡◌, ℕ, ◌++◌, false, List, Result, Ok, Err, Some}
 use Rattle.accounts.specs.Opened.{Opened}
 use Rattle.harvester.specs.History.{told_to}

@@ -1,10 +1,9 @@
 ghost use Rattle.std.specs.Prelude.{◌≡◌, ◌<◌, IfOk, OnErr, false, length};
 ghost use Rattle.std.specs.Bool.{OnFalse, OnTrue};
-ghost use Rattle.lanes.specs.Changing.{HasRenamed, HasStirred};
 ghost use Rattle.rounds.specs.Crewed.{lanings};
 ghost use Rattle.rounds.specs.WordsOf.{tails_of};
 ghost use Rattle.wire_base.specs.Ranges.{IsPath};
-ghost use Rattle.run_steps.specs.Changing.{ChangesOf, EndsFile, HasNone, LanesAndKeeper, NamesBy};
+ghost use Rattle.run_steps.specs.Changing.{EndsFile, HasNone, NamesBy, RenamesIfThere, StirsFile};
 
 use crate::telling::{is_followed, tell};
 use keeper::Keeper;
@@ -26,8 +25,7 @@ pub struct NewName {
 /// has one. Takes no memory.
 pub fn stir_file<T: Tail>(slot: Slot, lanes: &mut [Lane<T>]) -> bool
     requires some_lanes { 0 < length lanes.old }
-    ensures stirred { OnTrue result
-        (ChangesOf slot HasStirred (lanings lanes.old) (lanings lanes.new)) }
+    ensures stirs { OnTrue result (StirsFile slot (lanings lanes.old) (lanings lanes.new)) }
     ensures none { OnFalse result (HasNone slot (lanings lanes.old)) }
     ensures kept { OnFalse result (lanings lanes.new ≡ lanings lanes.old) }
     ensures as_many { length lanes.new ≡ length lanes.old }
@@ -83,19 +81,17 @@ pub fn rename_file<T: Tail>(
         path: noted,
     };
     tell(alloc, note, keeper)?;
-    let _ = rename_in(slot, path, lanes);
+    rename_in(slot, path, lanes);
     Ok(true)
 }
 
-/// Later events of the file of this slot have this path. Whether the lane of the slot has a harvester of it.
-fn rename_in<T: Tail>(slot: Slot, path: Text, lanes: &mut [Lane<T>]) -> bool
+/// Later events of the file of this slot have this path, if the lane of the slot has a harvester of it.
+fn rename_in<T: Tail>(slot: Slot, path: Text, lanes: &mut [Lane<T>])
     requires some_lanes { 0 < length lanes.old }
-    ensures renamed { OnTrue result (ChangesOf slot (HasRenamed T.numbers T.told path)
-        (lanings lanes.old) (lanings lanes.new)) }
-    ensures none { OnFalse result (HasNone slot (lanings lanes.old)) }
-    ensures kept { OnFalse result (lanings lanes.new ≡ lanings lanes.old) }
+    ensures renames { RenamesIfThere (tails_of T.Tail) slot (lanings lanes.old)
+        (lanings lanes.new) path }
     ensures as_many { length lanes.new ≡ length lanes.old }
 {
     let lane = slot.0 as usize % lanes.len();
-    lanes[lane].rename(slot, path)
+    let _ = lanes[lane].rename(slot, path);
 }

@@ -20,9 +20,10 @@ pub fn scans_again_are_steps<F: Folder, L: Link, W: Wire<Link = L>, D: Disk, K: 
         (step_words F.Folder F.Tail.Tail L.Link W.Wire D.Disk K.Clock B.Bell) }
 {}
 
-/// What a run does with one of its files between two rounds is a step of it: if it stirs the file, asks its harvester to end, or gives it a
-/// new path and tells the keeper that, what stood before it stands after it. It supposes that a scan missed the file before its harvester
-/// is asked to end, and that the newest scan listed the file by its new path and by no other. A law; it computes nothing.
+/// What a run does with one of its files between two rounds is a step of it. After it stirs the file, a run that stood stands. After it
+/// asks the file's harvester to end, or gives it a new path and tells the keeper that, what stood before stands, with that note. It
+/// supposes that a whole scan after the file's last opening missed it before its harvester is asked to end, and that the newest scan
+/// listed the file by its new path and by no other. A law; it computes nothing.
 pub fn changes_are_steps<F: Folder, L: Link, W: Wire<Link = L>, D: Disk, K: Clock, B: Bell>()
     ensures stirs { StirsAreSteps
         (step_words F.Folder F.Tail.Tail L.Link W.Wire D.Disk K.Clock B.Bell) }

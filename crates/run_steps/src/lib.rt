@@ -2,8 +2,8 @@
 //! go, and what was settled is stored. Rows of removed files go by notes, which the keeper is told once all files are begun.
 //!
 //! Each step says what it changed. Rounds, the last steps and what lets go keep one relation: what was told of each file, where
-//! each event of it is, what the keeper noted, and what the areas may hold at any moment. So does a scan after the first one,
-//! which no run makes yet.
+//! each event of it is, what the keeper noted, and what the areas may hold at any moment. So do a scan after the first one, and
+//! what a run does with a file by what that scan shows: it is stirred, asked to end or renamed. No run makes them yet.
 #![tactic(auto)]
 
 mod begin;

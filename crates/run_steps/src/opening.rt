@@ -11,10 +11,10 @@ use wire_base::{Begin, Epoch, Moment, NoMemory, Slot};
 /// A listed file that is to be opened.
 #[derive(Clone, Copy)]
 pub struct Opening<'a> {
-    /// Its place in the list.
+    /// As it is opened first, its place in the list.
     pub slot: Slot,
     pub listed: &'a Listed,
-    /// Where it starts, by its row.
+    /// Where it starts: by its row, or where its last tail was told to.
     pub start: Start,
     /// The moment of the scan.
     pub now: Moment,

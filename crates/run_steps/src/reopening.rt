@@ -24,7 +24,7 @@ use wire_base::{Epoch, NoMemory, Note};
 pub struct Reopening<'a> {
     /// As it was listed last, and from where it is read on.
     pub opening: Opening<'a>,
-    /// The epoch of which events were told last.
+    /// The epoch in which its last tail was closed. If no event was told in it, the file goes on from where that epoch begins.
     pub last: Epoch,
 }
 
@@ -42,7 +42,7 @@ pub fn goes_on(told: Start, size: u64) -> Option<Start>
 }
 
 /// Opens the file by its path once more, asks it for its key and follows it in the lane of its slot, from where it goes on; the
-/// keeper is told its epoch if that rose. Or skips it, if another file has the path or none; or it failed. `Err` is as of the first
+/// keeper is told its epoch if that rose. Or skips it, if another file has the path or none, or it is too small; or it failed. `Err` is as of the first
 /// opening. A file that was opened and is not followed is closed again.
 pub fn open_again<F: Folder, L: Link, W: Wire<Link = L>>(
     context: Context<'_, '_>,
@@ -52,10 +52,11 @@ pub fn open_again<F: Folder, L: Link, W: Wire<Link = L>>(
     keeper: &mut Keeper,
 ) -> Result<Admission, BeginError>
     requires { IsReopenable context.settings.now (reopened_of reopening) crew.old }
-    ensures { ReopensOne (tails_of F.Tail.Tail) context.entry.settings.now
+    ensures opened { ReopensOne (tails_of F.Tail.Tail) context.entry.settings.now
         (reopened_of reopening.entry) result
         (beginning F.Folder folder.old crew.old keeper.old)
         (beginning F.Folder folder.new crew.new keeper.new) }
+    ensures carriers { crew.new.carriers ≡ crew.old.carriers }
 {
     match folder.open(context.alloc, &reopening.opening.listed.path) {
         Ok(Some(tail)) => follow_known(context, reopening, tail, folder, crew, keeper),
@@ -75,10 +76,11 @@ fn follow_known<F: Folder, L: Link, W: Wire<Link = L>>(
     keeper: &mut Keeper,
 ) -> Result<Admission, BeginError>
     requires { IsReopenable context.settings.now (reopened_of reopening) crew.old }
-    ensures { FollowsListedAgain (tails_of F.Tail.Tail) context.entry.settings.now
+    ensures follows { FollowsListedAgain (tails_of F.Tail.Tail) context.entry.settings.now
         (reopened_of reopening.entry) tail result
         (beginning F.Folder folder.old crew.old keeper.old)
         (beginning F.Folder folder.new crew.new keeper.new) }
+    ensures carriers { crew.new.carriers ≡ crew.old.carriers }
 {
     match ask_key(context, reopening.opening, &mut tail) {
         Ok(None) => match follow_again(context, reopening, tail, folder, crew, keeper) {
@@ -114,6 +116,7 @@ fn follow_again<F: Folder, L: Link, W: Wire<Link = L>>(
         (reopened_of reopening.entry) tail
         (beginning F.Folder folder.old crew.old keeper.old)
         (beginning F.Folder folder.new crew.new keeper.new)) }
+    ensures carriers { crew.new.carriers ≡ crew.old.carriers }
 {
     match harvest(context, reopening.opening, tail) {
         Ok(harvester) => take_in_again(context.alloc, reopening, harvester, folder, crew, keeper),
@@ -141,6 +144,7 @@ fn take_in_again<F: Folder, L: Link, W: Wire<Link = L>>(
         (reopened_of reopening.entry) harvester.tail
         (beginning F.Folder folder.old crew.old keeper.old)
         (beginning F.Folder folder.new crew.new keeper.new)) }
+    ensures carriers { crew.new.carriers ≡ crew.old.carriers }
 {
     if let Err(error) = announce(alloc, reopening, keeper) {
         release(folder, harvester);

@@ -1,6 +1,5 @@
--- A scan that is cut off before its end, and scans one after another of which the last may be cut off so (Filebeat reference, filestream input; this
--- project's profile): memory was out, or a listed file has no native numbers for which its input asks. Nothing was asked until the root of each glob
--- was listed.
+-- A scan that is cut off before its end, for whatever reason, and scans one after another of which the last may be cut off so (Filebeat reference,
+-- filestream input; this project's profile). Nothing was asked until the root of each glob was listed.
 use Rattle.std.specs.Prelude.{◌≡◌, ◌⊎◌, ℕ, ◌<◌, ◌≤◌, List, [], ◌++◌, length, map, Option, Some, None}
 use Rattle.event_tree.specs.declared.settings.Settings.{Settings}
 use Rattle.kept_rows.specs.Run.{Asking}

@@ -1,4 +1,4 @@
 mod calls;
-mod files;
+pub mod files;
 mod many_rounds;
-mod rig;
+pub mod rig;

@@ -27,7 +27,7 @@ const FILES: [File; 4] = [
     ("/w/c", 2, None),
 ];
 
-fn settings(alloc: Global) -> Result<Settings, Fail>
+pub fn settings(alloc: Global) -> Result<Settings, Fail>
     ensures { IfOk result AreInRange }
 {
     match read_settings(alloc, SETTINGS) {

@@ -7,7 +7,7 @@ use Rattle.run_steps.proofs.changing.end_file.Goals as goal
 
 pub returns-clause-ends : goal.returns-clause-ends
 returns-clause-ends g c =
-    let stirred = c.if-not-stir_file.ensures.stirred in
+    let stirred = c.if-not-stir_file.ensures.stirs in
     let mid = c.stir_file.new.lanes in
     record {
       mid = lanings mid;

@@ -5,8 +5,8 @@ use Rattle.rounds.specs.WordsOf.{tails_of}
 use Rattle.run_steps.proofs.Reopened.{followed_known}
 use Rattle.run_steps.proofs.reopening.open_again.Goals as goal
 
-pub returns-in-Ok-Some : goal.returns-in-Ok-Some
-returns-in-Ok-Some g c =
+pub returns-in-Ok-Some-clause-opened : goal.returns-in-Ok-Some-clause-opened
+returns-in-Ok-Some-clause-opened g c =
     followed_known (tails_of g.F.Tail.Tail) c.args.context.settings.now (reopened_of c.args.reopening)
     c.in-Ok-Some.tail
     (beginning g.F.Folder c.args.folder.now c.args.crew.now c.args.keeper.now)
@@ -19,4 +19,4 @@ returns-in-Ok-Some g c =
       faults_never_fall = c.open.ensures.faults_never_fall;
       failed_only_where_faults_rose = c.open.ensures.failed_only_where_faults_rose;
     }) c.in-Ok-Some.field-0 c.in-Ok-Some.is c.in-Ok-Some.field-0-is
-    c.follow_known.result c.follow_known.ensures
+    c.follow_known.result c.follow_known.ensures.follows
