@@ -30,7 +30,7 @@ dist:
 deb:
 	python3 -B package/deb.py
 
-# the merge check, in an hour or more: all proofs, tests and must-fail edits, and the programs and the package from outside
+# the merge check, in 40 minutes on four processors: all proofs, tests and must-fail edits, and the programs and the package from outside
 test:
 	.ci/run
 

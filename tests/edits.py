@@ -20,6 +20,8 @@ IN_GATE = ROOT / "crates"
 BESIDE = ROOT / "tests" / "edits"
 # what a check of one crate may take of memory, so that as many run side by side as there is room for
 CHECK_MEMORY_BYTES = 5 << 30
+# of a crate that is not proved, so many lines of what its check printed
+SHOWN_LINES = 30
 # what a run says of how long it takes
 COST = "after what no gate has proved here: about 1 processor minute an edit"
 REFUSED = re.compile(r"rt: must-fail (\S+): refused, as it must be")
@@ -77,7 +79,13 @@ def check(found):
 
 def copied(room, found):
     """Lays the repository out in the folder `room`, with these edits and no others."""
-    shutil.copytree(IN_GATE, room / "crates", ignore=shutil.ignore_patterns("must-fail", "out"))
+    tops = set(IN_GATE.iterdir())
+
+    def left_out(folder, names):
+        # below the top of a crate, `out` is the folder of a function's proofs
+        return {"must-fail", "out"} & set(names) if Path(folder) in tops else set()
+
+    shutil.copytree(IN_GATE, room / "crates", ignore=left_out)
     for name in ("crates.txt", "HANDLES"):
         shutil.copy(ROOT / name, room)
     for crate, files in found.items():
@@ -104,8 +112,12 @@ def try_all(found):
         ran = subprocess.Popen(
             ["rt", "ci", *found], cwd=folder, env=given, stdout=subprocess.PIPE, stderr=subprocess.STDOUT, text=True
         )
+        said = []
         for line in ran.stdout:
-            if line.startswith("rt: "):
+            said = [line] if line.startswith("== ") else [*said[-SHOWN_LINES:], line]
+            if re.match(r"rt: .* NOT PROVED$", line):
+                print("".join(said), end="", flush=True)
+            elif line.startswith("rt: "):
                 print(line, end="", flush=True)
             if tried := REFUSED.match(line):
                 refused[tried.group(1).partition("/")[0]] += 1
