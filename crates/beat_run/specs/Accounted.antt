@@ -31,7 +31,7 @@ use Rattle.beat_run.specs.Printed.{IsReportOver}
 use Rattle.beat_run.specs.WithinLimits.{AllHaveNumbers, StaysWithinLimits}
 use Rattle.run_steps.specs.declared.met.Met.TheVariants as met
 
--- what a run with this status may have met; where it was refused, found no memory, or a disk or the sink failed, anything
+-- what a run with this status may have hit; if it was refused, was out of memory, or a disk or the sink failed, anything
 abbrev pub IsMetFor : Status → Met → Type 0
 IsMetFor Done what = what ≡ met.Done
 IsMetFor Stopped what = what ≡ met.Stopped
@@ -53,7 +53,7 @@ pub record HasNoEpoch {D : Type 0} (disks : DiskWords D) (settings : Settings) (
   pub given : GiveTheRows disks objects.before.a objects.before.b rows
   pub finds : FindsNoEpoch settings.inputs told rows path objects.after.folder
 
--- a run that ended since there were too many files, or for want of epochs, tells the path of a file for which there was no room, or no epoch
+-- a run that ended since there were too many files, or epochs ran out, names the path of a file for which there was no room, or no epoch
 abbrev pub IsFullFor : {D : Type 0} → DiskWords D → Settings → RunObjects D → Status → Type 0
 IsFullFor disks settings objects (TooMany Files path) = IfSome objects.before.folder (λ told. HasNoRoom disks settings objects told path)
 IsFullFor disks settings objects (TooMany Epochs path) = IfSome objects.before.folder (λ told. HasNoEpoch disks settings objects told path)
@@ -73,8 +73,8 @@ abbrev pub LeavesNoRemoved : {D : Type 0} → DiskWords D → RunObjects D → M
 LeavesNoRemoved disks objects what run =
     WereAtRest disks objects → IsTelling what → AreRowsBy disks objects.after (λ rows. AllByRecursion (λ row. ¬ (IsOfRemovedFile run row)) rows)
 
--- the clock was asked for each moment of the account; the numbers of the report that it tells are those of the account, and its skipped paths
--- those that the run skipped, each for its reason; where it is done, the numbers are of all events; and where it tells a report, it stayed within
+-- the clock was asked for each moment of the account; the numbers of the report that it gives are those of the account, and its skipped paths
+-- those that the run skipped, each for its reason; if it is done, the numbers are of all events; and if it gives a report, it stayed within
 -- the limits of files, epochs and native numbers
 pub record IsAccounted {D : Type 0} (disks : DiskWords D) (settings : Settings) (objects : RunObjects D) (status : Status) (tells : List ℕ → Type 0) : Type 0 where
   pub what : Met
@@ -88,13 +88,13 @@ pub record IsAccounted {D : Type 0} (disks : DiskWords D) (settings : Settings) 
   pub numbered : IsReportEnd status → AllHaveNumbers accounted.run accounted.account
   pub full_for : IsFullFor disks settings objects status
 
--- folder and clock tell before it, and each wire behind it
+-- what is known of folder and clock before it, and of each wire after it
 pub record TellEnough {D : Type 0} (before after : Objects D) : Type 0 where
   pub folder : IsSome before.folder
   pub moments : IsSome before.moments
   pub wires : AllByRecursion (λ outcomes. IsSome outcomes) after.outcomes
 
--- both areas tell what they hold, and that gives rows
+-- the contents of both areas are known, and they give rows
 pub record TellRows {D : Type 0} (disks : DiskWords D) (a b : D) : Type 0 where
   pub first : List ℕ
   pub second : List ℕ
@@ -108,7 +108,7 @@ pub record AllTell {D : Type 0} (disks : DiskWords D) (objects : RunObjects D) :
   pub tell : TellEnough objects.before objects.after
   pub areas : TellRows disks objects.before.a objects.before.b
 
--- what a run is lent, and leaves as it was where its settings are not known
+-- what a run is lent, and leaves as it was if its settings are not known
 pub record Lent (F W D : Type 0) : Type 0 where
   pub folder : F
   pub wires : List W
@@ -120,7 +120,7 @@ pub record RunLent (F W D : Type 0) : Type 0 where
   pub before : Lent F W D
   pub after : Lent F W D
 
--- by the settings that the source spells, where the status tells that they were known, and else so where the run used what it was lent;
+-- by the settings that the source spells, if the status says that they were known, and else the same if the run used what it was lent;
 -- by none that the program does not support, and by such as are in their ranges
 pub record IsAccountedByNamed {F W D : Type 0} (disks : DiskWords D) (source : Option (List ℕ)) (lent : RunLent F W D) (objects : RunObjects D) (status : Status) (tells : List ℕ → Type 0) : Type 0 where
   pub settings : Settings
@@ -135,7 +135,7 @@ IsAccountedWhereTold disks source lent objects status tells = AllTell disks obje
 
 -- ---- within a run
 
--- the store was opened from these areas, as the run began, and they gave its rows: where they were at rest they gave no others since, and
+-- the store was opened from these areas, as the run began, and they gave its rows: if they were at rest they gave no others since, and
 -- make the store's choice now
 pub record IsOpenedFrom {D : Type 0} (disks : DiskWords D) (from : Areas D) (store : Standing) (a b : D) : Type 0 where
   pub gave : GiveTheRows disks from.a from.b store.rows

@@ -1,4 +1,4 @@
--- A run behind a crash (this project's profile): at some moment of the writes of a run before, in the order that its account names, a crash
+-- A run after a crash (this project's profile): at some moment of the writes of a run before, in the order that its account names, a crash
 -- left both areas, and this one found them so. It is judged by that run's account at its end, wherever it would have ended: each row that this
 -- one opened is kept by it, and each key that had a row before has one, or some slot of it lost it rightly.
 use Rattle.std.specs.Prelude.{◌≡◌, ◌⊎◌, ℕ, List, Some}

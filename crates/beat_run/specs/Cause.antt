@@ -21,7 +21,7 @@ use Rattle.run_steps.specs.Worked.{Tolls}
 use Rattle.wire_base.specs.declared.limits.Full.TheVariants.{Epochs, Files, Slots}
 use Rattle.beat_run.specs.Named.{IsNamed}
 
--- what shows of the objects that a run uses once its settings are known: what folder, clock and each wire tell, how often clock and bell
+-- what shows of the objects that a run uses once its settings are known: what is known of folder, clock and wires, how often clock and bell
 -- were asked, and counts of faults and of rings
 pub record Signs : Type 0 where
   pub folder : Option FolderHistory
@@ -39,7 +39,7 @@ pub record AllSigns : Type 0 where
 abbrev pub all_signs : Signs → ℕ → ℕ → AllSigns
 all_signs signs source_faults sink_faults = record { signs = signs; source_faults = source_faults; sink_faults = sink_faults }
 
--- where no sink was used yet
+-- if no sink was used yet
 abbrev pub without_sink : Signs → ℕ → AllSigns
 without_sink signs source_faults = all_signs signs source_faults 0
 
@@ -47,7 +47,7 @@ without_sink signs source_faults = all_signs signs source_faults 0
 abbrev pub HasAreaFailed : Tolls → Tolls → Type 0
 HasAreaFailed before now = Rose before.a_faults now.a_faults ⊎ Rose before.b_faults now.b_faults
 
--- behind these outcomes the wire's last ones are failures, as many as end a run, by these moments; or its count of faults stands at its
+-- after these outcomes the wire's last ones are failures, as many as end a run, by these moments; or its count of faults is at its
 -- end, from where on failures are not listed
 pub record HasFailedSince (settings : SettingsOf) (moments : List ℕ) (earlier : List Outcome) (wire : Seen) : Type 0 where
   pub all : List Outcome
@@ -60,14 +60,14 @@ pub record MayHaveGiven (before now : Signs) (moments : List ℕ) : Type 0 where
   pub since : AreMomentsSince before.moments now.moments moments
   pub asked : WasAskedFor before.questions.clock now.questions.clock moments
 
--- by such moments the wire at this place failed so, where it tells
+-- by such moments the wire at this place failed in this way, if its outcomes are known
 pub record HasFailedBetween (settings : SettingsOf) (place : ℕ) (before now : Signs) : Type 0 where
   pub moments : List ℕ
   pub given : MayHaveGiven before now moments
   pub failed : (old new : Seen) → slice_get before.wires place ≡ Some old → slice_get now.wires place ≡ Some new →
       IfSome old.outcomes (λ earlier. HasFailedSince settings moments earlier new)
 
--- where the clock tells
+-- if the clock's moments are known
 abbrev pub HasFailedAt : SettingsOf → ℕ → Signs → Signs → Type 0
 HasFailedAt settings place before now = IsSome before.moments → IsSome now.moments → HasFailedBetween settings place before now
 
@@ -87,7 +87,7 @@ pub record WasListed (path : List ℕ) (told : FolderHistory) (after : Option Fo
   pub among : Contains (drop (length told.events) now.events) (Listed root depth shown)
   pub shows : Any (λ one. one.entry.path ≡ path) shown
 
--- a file of this path was opened since and told no native numbers, while an input that covers the path knows its files by these
+-- a file of this path was opened since and had no native numbers, while an input that covers the path recognizes its files by these
 pub record WasUnnumbered (inputs : List InputRule) (path : List ℕ) (told : FolderHistory) (after : Option FolderHistory) : Type 0 where
   pub now : FolderHistory
   pub tells : after ≡ Some now
@@ -130,7 +130,7 @@ pub record HasCauseByNamed (source : Option (List ℕ)) (before now : Signs) (st
   pub named : IsNamed source settings
   pub by : CauseBy settings before now status
 
--- which arguments, settings and areas are refused, and what is done, is told by clauses of their own
+-- which arguments, settings and areas are refused, and what is done, is said by clauses of their own
 abbrev pub Cause : Option (List ℕ) → AllSigns → AllSigns → Status → Type 0
 Cause source before now Done = Unit {0}
 Cause source before now Stopped = Rose before.signs.counts.rings now.signs.counts.rings

@@ -1,6 +1,6 @@
 -- When a run has to be done (this project's profile): nothing that it is given is refused or not built, no count of faults rises, the bell
 -- does not ring, files are no more than there may be, have epochs left and the native numbers that are asked for, and peers send nothing
--- but acknowledgements within their windows, in time as far as the clock tells. Then it ends with `Done`, or for want of memory.
+-- but acknowledgements within their windows, in time as far as the clock's moments are known. Then it ends with `Done`, or out of memory.
 use Rattle.std.specs.Prelude.{◌≡◌, ◌⊎◌, ℕ, false, List, [], drop, length, slice_get, take, Option, Some, IfSome, IsSome, IsSomeAnd}
 use Rattle.std.specs.List.{AllByRecursion}
 use Rattle.batch_worker.specs.Seen.{Seen}
@@ -39,7 +39,7 @@ given_run words source a b = record { words = words; source = source; a = a; b =
 
 -- ---- what it is given
 
--- the source tells bytes that spell these settings, and they ask for nothing that is not built
+-- the source's bytes are known and spell these settings, and they ask for nothing that is not built
 pub record TellsBuilt (source : Option (List ℕ)) (settings : SettingsOf) : Type 0 where
   pub bytes : List ℕ
   pub tells : source ≡ Some bytes
@@ -64,12 +64,12 @@ abbrev pub IsServed : Outcome → Type 0
 IsServed Refused = ⊥
 IsServed (Finished talk faults idles) = (¬ (Rose 0 faults)) × (¬ (HasPeerFault talk.pieces))
 
--- its link did not stand idle behind what it sent last, as none does whose count of idles did not rise
+-- its link was not idle after what it sent last, as none is whose count of idles did not rise
 abbrev pub IsNotIdle : Outcome → Type 0
 IsNotIdle Refused = Unit {0}
 IsNotIdle (Finished talk faults idles) = talk.idled ≡ false
 
--- the wire tells, and so it is of each connection that it has told since
+-- the wire's outcomes are known, and this holds of each connection that it has had since
 abbrev pub EachSince : (Outcome → Type 0) → Seen → Seen → Type 0
 EachSince P old new = IsSomeAnd old.outcomes (λ earlier. IsSomeAnd new.outcomes (λ all. AllByRecursion P (drop (length earlier) all)))
 
@@ -77,7 +77,7 @@ EachSince P old new = IsSomeAnd old.outcomes (λ earlier. IsSomeAnd new.outcomes
 abbrev pub OfEachWire : (Seen → Seen → Type 0) → Signs → Signs → Type 0
 OfEachWire P before now = (place : ℕ) (old new : Seen) → slice_get before.wires place ≡ Some old → slice_get now.wires place ≡ Some new → P old new
 
--- no wire counted a fault, each connection was served, and none stood idle, or no two moments that the clock may have given the run lie the
+-- no wire counted a fault, each connection was served, and none was idle, or no two moments that the clock may have given the run lie the
 -- timeout apart
 pub record PeersServe (timeout : ℕ) (before now : Signs) : Type 0 where
   pub wires : OfEachWire (λ old new. ¬ (Rose old.faults new.faults)) before now

@@ -1,4 +1,4 @@
--- Which statuses end which part of the run, and the count that has to have risen where one blames the outside (this
+-- Which statuses end which part of the run, and the count that has to have risen if one blames the outside (this
 -- project's profile). A count is given as it was before and as it is now.
 use Rattle.std.specs.Prelude.{◌≡◌, ◌⊎◌, ℕ, List, Option}
 use Rattle.beat_config.specs.declared.settings_error.SettingsError.{SettingsError}
@@ -97,20 +97,20 @@ pub record HasPartedEnd (rows : List Row) (listed : List Listed) (status : Statu
 abbrev pub IsPartedEnd : List Row → List Listed → Status → Type 0
 IsPartedEnd rows listed status = (status ≡ NoMemory) ⊎ HasPartedEnd rows listed status
 
--- a run that tells a report
+-- a run that gives a report
 abbrev pub IsReportEnd : Status → Type 0
 IsReportEnd Done = Unit {0}
 IsReportEnd Stopped = Unit {0}
 IsReportEnd _ = ⊥
 
--- a run that prints its status line alone
+-- a run that prints only its status line
 abbrev pub IsRunEnd : Status → Type 0
 IsRunEnd Done = ⊥
 IsRunEnd Stopped = ⊥
 IsRunEnd OutFault = ⊥
 IsRunEnd _ = Unit {0}
 
--- rounds, and what comes behind them, where no report is told
+-- rounds, and the later events, if no report is given
 abbrev pub IsWorkedEnd : Status → Type 0
 IsWorkedEnd NoMemory = Unit {0}
 IsWorkedEnd DiskFault = Unit {0}
@@ -120,12 +120,12 @@ IsWorkedEnd (TooMany Epochs path) = Unit {0}
 IsWorkedEnd (NoNative path) = Unit {0}
 IsWorkedEnd _ = ⊥
 
--- the scan and all that comes behind it, where no report is told
+-- the scan and all later events, if no report is given
 abbrev pub IsScannedEnd : Status → Type 0
 IsScannedEnd (TooMany Files path) = Unit {0}
 IsScannedEnd status = IsWorkedEnd status
 
--- all that is done once the settings are known, where no report is told
+-- all that is done once the settings are known, if no report is given
 abbrev pub IsSettledEnd : Status → Type 0
 IsSettledEnd (RegistryBad area at) = Unit {0}
 IsSettledEnd status = IsScannedEnd status
@@ -177,7 +177,7 @@ abbrev pub IsPrintingEnd : ℕ → ℕ → Status → Status → Type 0
 IsPrintingEnd before now ended OutFault = Rose before now
 IsPrintingEnd before now ended status = status ≡ ended
 
--- areas that are refused end the run so, where nothing else went wrong before
+-- areas that are refused end the run this way, if nothing else went wrong before
 abbrev pub RefusesArea : Status → Type 0
 RefusesArea Usage = Unit {0}
 RefusesArea SourceFault = Unit {0}
@@ -200,7 +200,7 @@ IsRefusal (Unbuilt (Key key)) = Unit {0}
 IsRefusal (Unbuilt Follow) = Unit {0}
 IsRefusal _ = ⊥
 
--- the statuses of a run that ended behind the opening of its registry, and of no other
+-- the statuses of a run that ended after the opening of its registry, and of no other
 abbrev pub IsBehindOpening : Status → Type 0
 IsBehindOpening Done = Unit {0}
 IsBehindOpening Stopped = Unit {0}

@@ -1,4 +1,4 @@
--- Why a run ends for want of epochs, and where it does not (this project's profile): a file needs one above the last epoch, as it is to be
+-- Why a run ends because epochs ran out, and when not (this project's profile): a file needs one above the last epoch, as it is to be
 -- started or as it is read.
 use Rattle.std.specs.Prelude.{◌≡◌, ◌⊎◌, ℕ, List, ◌++◌, slice_get, Option, Some}
 use Rattle.event_tree.specs.declared.input_rule.InputRule.{InputRule}
@@ -10,7 +10,7 @@ use Rattle.wire_base.specs.declared.row.Row.{Row}
 use Rattle.beat_run.specs.Ends.{ListsTooMany}
 use Rattle.beat_run.specs.Scanning.{ScansParted}
 
--- the scan told the file of this path as one to be followed, and behind the scan it ran out of epochs
+-- the scan reported the file of this path as one to be followed, and after the scan it ran out of epochs
 pub record ReadsToTheLast (inputs : List InputRule) (told : FolderHistory) (rows : List Row) (path : List ℕ) (after : Option FolderHistory) : Type 0 where
   pub files : List Listed
   pub doubled : List Listed

@@ -99,8 +99,8 @@ module _ {F W D K B : Type 0} (words : OutsideWords F W D K B) where
   abbrev pub CausedIn : Settings → Outside F W D K B → Outside F W D K B → Status → Type 0
   CausedIn settings old new status = CauseBy settings (signs_of (handed_in old)) (signs_of (handed_in new)) status
 
-  -- the clock's list stays in front, it is asked as often as the bell, the wires are as many, each tail is closed and each link finished where folder and wires can count
-  -- them, and an area that told what it holds still tells it
+  -- the clock's list stays in front, it is asked as often as the bell, the wires are as many, each tail is closed and each link finished if folder and wires can count
+  -- them, and an area whose content was known is known still
   pub record GoesOn (old new : Outside F W D K B) : Type 0 where
     pub clock : MomentsGoOn (words.moments old.clock.now) (words.moments new.clock.now)
     pub asks : AsksOn 0 (words.questions old.clock.now old.bell.now) (words.questions new.clock.now new.bell.now)

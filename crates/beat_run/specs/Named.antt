@@ -1,4 +1,4 @@
--- The settings of a run (this project's profile): those that all bytes of its source spell, as far as it tells them.
+-- The settings of a run (this project's profile): those that all bytes of its source spell, as far as these are known.
 use Rattle.std.specs.Prelude.{ℕ, List, take, Option, IfSome}
 use Rattle.beat_config.specs.Document.{AreSettingsOf}
 use Rattle.event_tree.specs.declared.settings.Settings.{Settings}

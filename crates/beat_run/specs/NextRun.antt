@@ -1,6 +1,6 @@
--- A run behind another one (this project's profile), both accounted for: it found both areas as the other left them, and each row that it
--- opened was told by the other, whatever that met, or stood as the other opened it; where the other made its last steps, only a row of a
--- key that it did not begin stood so. Each key that had a row has one, or lost it rightly.
+-- A run after another one (this project's profile), both accounted for: it found both areas as the other left them, and each row that it
+-- opened was reported by the other, whatever that hit, or was as the other opened it; if the other made its last steps, only a row of a
+-- key that it did not begin was so. Each key that had a row has one, or lost it rightly.
 use Rattle.std.specs.Prelude.{◌≡◌, ◌⊎◌, ℕ, List, Some}
 use Rattle.std.specs.List.{AllByRecursion}
 use Rattle.event_tree.specs.declared.settings.Settings.{Settings}

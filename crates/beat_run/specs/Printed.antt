@@ -1,4 +1,4 @@
--- What a run prints (this project's profile): where it is done or stopped, the report; else the status line alone.
+-- What a run prints (this project's profile): if it is done or stopped, the report; else only the status line.
 use Rattle.std.specs.Prelude.{◌≡◌, ◌⊎◌, ℕ, List, ◌++◌, take, IfSome, MatchResult, Option, Result, Some}
 use Rattle.accounts.specs.Numbers.{AreNumbersOf, ArePlacedIn}
 use Rattle.kept_rows.specs.Account.{SlotAccount}
@@ -24,7 +24,7 @@ pub record IsReportOf (status : Status) (text : List ℕ) : Type 0 where
   pub report : IsReport rows passed shipped dropped status text
 
 -- and its numbers are those of the account, whose events are placed as the run's wires acknowledge their payloads; its skipped paths are those
--- that the run skipped, each for its reason, where the folder told before it
+-- that the run skipped, each for its reason, if what was done with the folder before it is known
 pub record IsReportOver {D : Type 0} (objects : RunObjects D) (run : Run) (account : List SlotAccount) (status : Status) (text : List ℕ) : Type 0 where
   pub rows : List Row
   pub passed : List Passing
@@ -44,32 +44,32 @@ pub record ReportsStored {D : Type 0} (disks : DiskWords D) (a b : D) (status : 
 abbrev pub IsToBePrinted : Result Ending Status → List ℕ → Type 0
 IsToBePrinted result text = MatchResult result (λ ending. ending.report ≡ text) (λ _. ⊥)
 
--- this text stands behind what the sink held
+-- this text is after what the sink held
 pub record StandsBehind (written after : Option (List ℕ)) (text : List ℕ) : Type 0 where
   pub front : List ℕ
   pub held_before : written ≡ Some front
   pub held : after ≡ Some (front ++ text)
 
--- a text of this kind stands behind what the sink held
+-- a text of this kind is after what the sink held
 pub record Prints (Kind : List ℕ → Type 0) (written : List ℕ) (after : Option (List ℕ)) : Type 0 where
   pub text : List ℕ
   pub is : Kind text
   pub held : after ≡ Some (written ++ text)
 
--- a text that a run may print: a report, or the status line of a run that tells none
+-- a text that a run may print: a report, or the status line of a run that gives none
 abbrev pub IsPrintable : List ℕ → Type 0
 IsPrintable text =
     ((status : Status) × (IsReportEnd status × IsReportOf status text))
     ⊎ ((status : Status) × (IsRunEnd status × (text ≡ status_bytes status)))
 
--- a front of such a text stands behind what the sink held
+-- a front of such a text is after what the sink held
 pub record HoldsFront (written : List ℕ) (after : Option (List ℕ)) : Type 0 where
   pub text : List ℕ
   pub printable : IsPrintable text
   pub count : ℕ
   pub held : after ≡ Some (written ++ take count text)
 
--- the status line stands behind what the sink held, or a front of what was to be printed where the sink failed; a run that
+-- the status line is after what the sink held, or a front of what was to be printed if the sink failed; a run that
 -- is done or stopped prints a report
 abbrev pub IsPrinted : List ℕ → Option (List ℕ) → Status → Type 0
 IsPrinted written after Done = Prints (IsReportOf Done) written after

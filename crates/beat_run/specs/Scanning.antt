@@ -1,4 +1,4 @@
--- What one scan told (Filebeat reference, filestream input, file identity; this project's profile): which files it listed, what asking
+-- What one scan reported (Filebeat reference, filestream input, file identity; this project's profile): which files it listed, what asking
 -- these for their keys came to, and which of those with a key are followed.
 use Rattle.std.specs.Prelude.{◌≡◌, All, List, Option, Some, flat_map, map}
 use Rattle.event_tree.specs.declared.input_rule.InputRule.{InputRule}
@@ -11,7 +11,7 @@ use Rattle.run_steps.specs.declared.beginning.Scanned.{Scanned}
 
 pub record ScansParted (inputs : List InputRule) (told : FolderHistory) (files doubled : List Listed) (after : Option FolderHistory) : Type 0 where
   pub all : List Listed
-  -- what the folder told behind the listings, and behind the askings
+  -- what the folder reported after the listings, and after the askings
   pub listed : FolderHistory
   pub scanned : FolderHistory
   pub scans : ScansFiles inputs told all (Some listed)
@@ -22,7 +22,7 @@ pub record ScansParted (inputs : List InputRule) (told : FolderHistory) (files d
   pub after_is : after ≡ Some scanned
   pub parts : PartsDoubled (flat_map keyed_by asked) files doubled
 
--- the scan tells these files; those that were gone as they were asked, and those that are too small, are told by the same askings
+-- the scan reports these files; those that were gone as they were asked, and those that are too small, are reported by the same askings
 pub record TellsScanned (inputs : List InputRule) (told : FolderHistory) (tells : Scanned) (after : Option FolderHistory) : Type 0 where
   pub parted : ScansParted inputs told tells.listed.items tells.doubled.items after
   pub gone : tells.gone.items ≡ flat_map gone_by parted.asked

@@ -21,7 +21,7 @@ pub record AskByKey (bytes key : List ℕ) : Type 0 where
   pub first : IsFirstLack settings key
 
 -- the command refuses the arguments, or they ask for what is not built; the settings have a fault, or ask for what is
--- not built; or both areas tell, and are refused
+-- not built; or both areas are known, and are refused
 abbrev pub IsRefused : List (List ℕ) → Option (List ℕ) → Option (List ℕ) → Option (List ℕ) → Type 0
 IsRefused words source first second =
     IsNoCommand words
@@ -30,7 +30,7 @@ IsRefused words source first second =
     ⊎ (IsSomeAnd source (λ bytes. (key : List ℕ) × AskByKey (take LIMIT bytes) key)
     ⊎ IsSomeAnd first (λ one. IsSomeAnd second (λ other. (area : Which) × (at : ℕ) × AreRefusedAt one other area at)))))
 
--- so it is if both areas tell what they hold, and are refused
+-- the same if both areas are known, and are refused
 abbrev pub IfAreasRefused : {D : Type 0} → DiskGhosts D → D → D → Type 0 → Type 0
 IfAreasRefused disk a b P = (first second : List ℕ) (area : Which) (at : ℕ) → disk.contents a ≡ Some first → disk.contents b ≡ Some second →
     AreRefusedAt first second area at → P

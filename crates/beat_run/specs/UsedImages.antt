@@ -1,5 +1,5 @@
 -- What a crash may leave of one area by itself (this project's profile): of the area that a run used as it opened its registry, or of a greater
--- generation than that had, or of any area where the registry was empty; where it is opened it has rows that the run keeps.
+-- generation than that had, or of any area if the registry was empty; if it is opened it has rows that the run keeps.
 use Rattle.std.specs.Prelude.{◌≡◌, ◌⊎◌, ℕ, ◌<◌, List}
 use Rattle.registry_log.specs.State.{IsOpened}
 use Rattle.registry_store.specs.Choice.{Choice, Chosen, Fresh, Refused}
@@ -18,7 +18,7 @@ IsUsedOrLater (Chosen used its_generation rows start end) area generation = (are
 IsUsedOrLater (Refused refused at) area generation = ⊥
 
 module _ {D : Type 0} (disks : DiskWords D) where
-  -- an image of one area since the run began, and what it has where it is opened
+  -- an image of one area since the run began, and what it has if it is opened
   pub record UsedImage (objects : RunObjects D) : Type 0 where
     pub area : Which
     pub image : List ℕ

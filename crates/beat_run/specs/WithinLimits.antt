@@ -1,4 +1,4 @@
--- What a run that tells a report kept within (this project's profile): each file that it listed has the native numbers that its input asks
+-- What a run that gives a report kept within (this project's profile): each file that it listed has the native numbers that its input asks
 -- for; those that are followed, one for each key, are with the rows that its areas gave no more than there may be; and each of them could
 -- be started, in an epoch that there is.
 use Rattle.std.specs.Prelude.{◌≡◌, ℕ, List, ◌++◌, length, slice_get, IsSome, Option, Some}
@@ -19,7 +19,7 @@ use Rattle.run_steps.specs.Starting.{AreFewFiles, HaveRoomBefore}
 use Rattle.wire_base.specs.declared.row.Row.{Row}
 use Rattle.beat_run.specs.Scanning.{ScansParted}
 
--- beside these rows; the folder did more behind the scan. That each listed file has its numbers is `keyed` of what the scan parted
+-- beside these rows; the folder did more after the scan. That each listed file has its numbers is `keyed` of what the scan parted
 pub record IsWithinLimits (inputs : List InputRule) (rows : List Row) (told : FolderHistory) (after : Option FolderHistory) : Type 0 where
   pub files : List Listed
   pub doubled : List Listed
@@ -38,7 +38,7 @@ pub record StaysWithinLimits {D : Type 0} (disks : DiskWords D) (settings : Sett
 
 -- ---- as files are opened
 
--- a file that a tail of this input follows has native numbers, where the input knows its files by these
+-- a file that a tail of this input follows has native numbers, if the input recognizes its files by these
 abbrev pub HasItsNumbers : Run → ℕ → FollowedTail → Type 0
 HasItsNumbers run input tail = (rule : InputRule) (path : List ℕ) (number : ℕ) (begun : Sight) (file : File) → slice_get run.settings.inputs input ≡ Some rule →
     rule.file_identity ≡ Native → slice_get run.trace.events tail.opening ≡ Some (Opened path number begun) → slice_get run.trace.files number ≡ Some file → IsSome file.numbers

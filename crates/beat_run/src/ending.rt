@@ -13,7 +13,7 @@ use run_steps::{Met, Scanned, Worked, pass_over};
 use std::alloc::Global;
 use wire_base::{Blob, NoMemory};
 
-/// What a run that was done or stopped tells.
+/// What a run that was done or stopped reports.
 #[derive(Drop)]
 pub struct Ending {
     pub report: Blob,
@@ -28,7 +28,7 @@ pub struct Totals {
     pub dropped: u64,
 }
 
-/// What is told of what a run has done, or the status that it ends with.
+/// What is reported of what a run has done, or the status that it ends with.
 pub fn ending_of(
     alloc: Global,
     worked: Worked,
@@ -68,7 +68,7 @@ pub fn ending_of(
     }
 }
 
-/// The paths that were skipped as files were opened, and behind them those of files that the scan skipped.
+/// The paths that were skipped as files were opened, and after them those of files that the scan skipped.
 fn with_skipped(
     alloc: Global,
     passed: Vec<Passing>,

@@ -17,8 +17,8 @@ pub fn unasked_disk_is_only_read<D: Disk>()
         IsOnlyRead D.contents D.images D.moment D.images_since D.faults disk disk }
 {}
 
-/// Each row that a run opens was told by the run before, whatever that met, or stood as that one opened it; and no key loses its row
-/// but rightly. So the rows that `accounted_runs_adjoin` asks for are there, and its inputs have ids of their own. A law; it computes
+/// Each row that a run opens was reported by the run before, whatever it hit, or was as that one opened it; and no key loses its row
+/// except rightly. So the rows that `accounted_runs_adjoin` asks for are there, and its inputs have their own ids. A law; it computes
 /// nothing.
 pub fn next_run_opens_kept_rows<D: Disk>()
     ensures opening { (earlier later : EndedRun (disks_of D.Disk)) →
@@ -51,8 +51,8 @@ pub fn run_after_a_crash_opens_kept_rows<D: Disk>()
     one_choice();
 }
 
-/// Whatever a crash at any moment of a run leaves of one area has kept rows, where it is opened and of the area that the run used
-/// as it began, or of a greater generation than that had, or where the registry was empty. A law; it computes nothing.
+/// Whatever a crash at any moment of a run leaves of one area has kept rows, if it is opened and of the area that the run used
+/// as it began, or of a greater generation than that had, or if the registry was empty. A law; it computes nothing.
 pub fn used_images_have_kept_rows<D: Disk>()
     ensures { (run : EndedRun (disks_of D.Disk)) → KeepsUsedImages (disks_of D.Disk) run }
 {

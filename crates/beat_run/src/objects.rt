@@ -1,5 +1,5 @@
 /// The objects that a run is handed: all that it reads, sends by, stores in and asks. It is written out where the references are,
-/// for of a call that made it no caller could tell what they come to.
+/// for of a call that made it no caller could say what they come to.
 #[derive(Drop)]
 pub struct Outside<'a, 'b, 'c, 'd, 'e, 'f, F, W, D, K, B> {
     pub folder: &'a mut F,

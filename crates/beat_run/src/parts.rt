@@ -21,7 +21,7 @@ pub struct Parts {
     pub keeper: Keeper,
 }
 
-/// The parts of a run over this store, with a queue of so many events.
+/// The parts of a run over this store, with a queue of this many events.
 pub fn parts_of(alloc: Global, events: u32, store: Store) -> Result<Parts, NoMemory>
     requires some { 0 < events }
     requires open { store.closed ≡ false }

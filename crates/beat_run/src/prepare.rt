@@ -56,7 +56,7 @@ pub fn prepare<R: Source>(alloc: Global, words: &[Text], source: &mut R) -> Resu
     }
 }
 
-/// Answers Ok where the arguments ask for files that are read once.
+/// Answers Ok if the arguments ask for files that are read once.
 fn check_words(alloc: Global, words: &[Text]) -> Result<(), Status>
     ensures once { OnOk result (AskForOnce words.now) }
     ensures usage_only { IsErrOf result Status.Usage → IsNoCommand words.now }
@@ -76,7 +76,7 @@ fn check_words(alloc: Global, words: &[Text]) -> Result<(), Status>
     }
 }
 
-/// Answers Ok where the settings ask for nothing that is not built.
+/// Answers Ok if the settings ask for nothing that is not built.
 fn check_keys(alloc: Global, settings: &Settings) -> Result<(), Status>
     ensures none { OnOk result (lacks_of settings.now ≡ []) }
     ensures only { (key : List ℕ) → IsErrOf result (Status.Unbuilt (Lack.Key key)) →

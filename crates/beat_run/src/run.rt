@@ -295,7 +295,7 @@ where
     finish(context, &scanned, worked, keeper)
 }
 
-/// Makes what is told of the run.
+/// Makes the report of the run.
 fn finish(
     context: Context<'_, '_>,
     scanned: &Scanned,

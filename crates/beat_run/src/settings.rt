@@ -11,7 +11,7 @@ use report::Status;
 use source_bytes::{ReadError, read_up_to};
 use std::alloc::Global;
 
-/// So many bytes of the settings are read at most: one more than they may have.
+/// At most this many bytes of the settings are read: one more than they may have.
 pub const LIMIT: usize = MAX_SETTINGS + 1;
 
 /// The settings of all the source's bytes.

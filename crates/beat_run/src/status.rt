@@ -12,8 +12,8 @@ use run_steps::{Met, RegistryError};
 use std::alloc::Global;
 use wire_base::{Full, Text};
 
-/// The status that stands for what a run met. A slot is a place in the list, and `attempts` is how often a worker may fail in a row.
-/// Where there is no memory for the path of a file it is `NoMemory`.
+/// The status for what a run hit. A slot is a place in the list, and `attempts` is how often a worker may fail in a row.
+/// If there is no memory for the path of a file it is `NoMemory`.
 pub fn status_of(alloc: Global, met: Met, listed: &[Listed], attempts: u32) -> Status
     requires of_these { IsMetOf (length listed.now) met }
     ensures stands { StandsForMet listed.now attempts met result }

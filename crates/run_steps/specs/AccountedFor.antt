@@ -1,10 +1,10 @@
--- A run that is accounted for (this project's profile): a run by its settings that fits what its objects told before and after it, and
--- an account of it. Its opening rows are those that its areas gave. Its files are followed so, only told events were sent, and the rows that
+-- A run that is accounted for (this project's profile): a run by its settings that fits what its objects reported before and after it, and
+-- an account of it. Its opening rows are those that its areas gave. Its files are followed so, only reported events were sent, rows that
 -- its areas give are kept. So are those that both areas gave together since it began, in one order of its writes, and those of each image of one
--- area by itself, but for an area that it did not use then and that is as it was. A key that had a row has one or lost it rightly, the same one where it was not
--- begun; and so has one that was begun, where the last steps were made. Each slot is as the run told it where its own file keeps its identity
+-- area by itself, but for an area that it did not use then and that is as it was. A key that had a row has one or lost it rightly, the same one if it was not
+-- begun; and so has one that was begun, if the last steps were made. Each slot is as the run reported it if its own file keeps its identity
 -- and its own truncations are seen, and a run that is done drained its folder. Its events are of epochs
--- that there are, and a run that tells a report needed no other. It is said where the folder, the clock and each wire tell.
+-- that there are, and a run that gives a report needed no other. It is said if the folder, the clock and each wire are known.
 use Rattle.std.specs.Prelude.{◌≡◌, ◌⊎◌, ℕ, ◌+◌, ◌≤◌, true, Contains, List, [], ◌∷◌, ◌++◌, length, map, Option, Some, None}
 use Rattle.std.specs.List.{AllByRecursion}
 use Rattle.accounts.specs.AccountedFor.{HasItsRow, followings_in}
@@ -47,7 +47,7 @@ use Rattle.run_steps.specs.declared.met.Met.TheVariants.{Done, Stopped}
 
 -- ---- the run that it is
 
--- what the objects of a run tell at one moment: its folder, its clock, how often clock and bell were asked, each wire of its outcomes, and the
+-- what is known of a run's objects at one moment: its folder, its clock, how often clock and bell were asked, each wire's outcomes, and the
 -- areas
 pub record Objects (D : Type 0) : Type 0 where
   pub folder : Option FolderHistory
@@ -65,7 +65,7 @@ pub record RunObjects (D : Type 0) : Type 0 where
   pub before : Objects D
   pub after : Objects D
 
--- the trace has what the folder told, and that the run began behind what it had told before, which it tells still
+-- the trace has what the folder reported, and that the run began after what it had reported before, which it reports still
 pub record FitsFolder (before after : FolderHistory) (trace : Trace) : Type 0 where
   pub goes_on : FolderGoesOn before after
   pub files : trace.files ≡ after.files
@@ -97,7 +97,7 @@ pub record BeginWith (moment : ℕ) (moments : List ℕ) : Type 0 where
   pub later : List ℕ
   pub are : moments ≡ moment ∷ later
 
--- the run reads its files once, by one scan if it made one, and is what its objects told
+-- the run reads its files once, by one scan if it made one, and is what its objects reported
 pub record FitsObjects {D : Type 0} (objects : RunObjects D) (run : Run) : Type 0 where
   pub once : run.once ≡ true
   pub one_scan : length run.scans ≤ 1
@@ -142,8 +142,8 @@ module _ (run : Run) (account : List SlotAccount) where
     pub given : GivesRows first second rows
     pub are : AreImageRows LostInImage rows
 
-  -- the rows that the bytes of both areas give: as those of an image, whatever was met, but that keys without a row have lost it for good;
-  -- where the last steps were made, kept as a run ends with them, one for each key that was begun, or rightly lost, and stored as far as
+  -- the rows that the bytes of both areas give: as those of an image, whatever was hit, but that keys without a row have lost it for good;
+  -- if the last steps were made, kept as a run ends with them, one for each key that was begun, or rightly lost, and stored as far as
   -- events are settled
   pub record RowsBy (met : Met) (rows : List Row) : Type 0 where
     pub in_image : AreImageRows LostKey rows
@@ -170,7 +170,7 @@ ImagesHoldKeptRows disks objects run account area = (image : List ℕ) (generati
 abbrev pub TogetherHoldKeptRows : {D : Type 0} → DiskWords D → RunObjects D → Run → List SlotAccount → Type 0
 TogetherHoldKeptRows disks objects run account = GiveThroughout disks (GiveImageRows run account) (areas_of objects.before) (areas_of objects.after)
 
--- as the run began, both areas told what they held, and nothing was pending on them
+-- as the run began, the contents of both areas were known, and nothing was pending on them
 abbrev pub WereAtRest : {D : Type 0} → DiskWords D → RunObjects D → Type 0
 WereAtRest disks objects = AreAtRest disks.contents disks.images objects.before.a objects.before.b
 
@@ -191,11 +191,11 @@ pub record AccountedFor {D : Type 0} (disks : DiskWords D) (settings : Settings)
   pub together : WereAtRest disks objects → TogetherHoldKeptRows disks objects run account
   -- a run that is done drained its folder
   pub drained : WereAtRest disks objects → met ≡ Done → AreRowsBy disks objects.after (IsDrainedBySlots run account)
-  -- where it tells a report, it took up what its first scan showed; where it was stopped, each file was read behind each look at its length
+  -- if it gives a report, it took up what its first scan showed; if it was stopped, each file was read after each look at its length
   pub taken_up : IsTelling met → HasTakenUp run account
   pub read : met ≡ Stopped → AllByRecursion (λ one. AllByRecursion (HasReadBehind run.trace) one.following.tails) account
-  -- and where it asked its bell at least twice it looked at some file
+  -- and if it asked its bell at least twice it looked at some file
   pub looked : met ≡ Stopped → objects.before.questions.bell + 2 ≤ objects.after.questions.bell → HasFirstLook run account
-  -- each event was told in an epoch that there is; where it tells a report, no file that a tail followed needed one above the last
+  -- each event was reported in an epoch that there is; if it gives a report, no file that a tail followed needed one above the last
   pub told_in_epochs : AllByRecursion IsToldInEpochs account
   pub epochs : IsTelling met → AllByRecursion (λ one. AllByRecursion (HasItsEpochs one) one.following.tails) account

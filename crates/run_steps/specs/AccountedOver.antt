@@ -1,8 +1,8 @@
 -- A run over listed files that is accounted for (this project's profile). It began with the rows of its store; its one scan was whole, and showed
--- the keys of the listed files, and no other. Where it tells a report, no row of a removed file is left. Its events are placed as its wires
--- acknowledge their payloads. Where the last steps were made, the numbers of shipped and of dropped events are those of the account;
--- where it is done, these are all of its events. Where it tells a report, each listed file is followed, or skipped for its reason behind the
--- scan; `scanned` is how many things the folder had told by the end of that. The moments that the clock gave begin with that of the scan.
+-- the keys of the listed files, and no other. If it gives a report, no row of a removed file is left. Its events are placed as its wires
+-- acknowledge their payloads. If the last steps were made, the numbers of shipped and of dropped events are those of the account;
+-- if it is done, these are all of its events. If it gives a report, each listed file is followed, or skipped for its reason after the
+-- scan; `scanned` is how many things the folder had reported by the end of that. The clock's moments begin with that of the scan.
 use Rattle.std.specs.Prelude.{◌≡◌, ℕ, List, [], ◌∷◌, Contains, Some}
 use Rattle.std.specs.List.{AllByRecursion}
 use Rattle.accounts.specs.Numbers.{AreAllCounted, AreNumbersOf, ArePlacedIn}

@@ -1,5 +1,5 @@
 -- What the areas of a run may hold at any moment, and what the keeper asks of them (this project's profile): rows over those that the
--- areas gave as the run began and over first ones of the notes, where the disks were at rest then.
+-- areas gave as the run began and over first ones of the notes, if the disks were at rest then.
 use Rattle.std.specs.Prelude.{◌≡◌, ℕ, List, Some}
 use Rattle.keeper.specs.Keeping.{Keeping}
 use Rattle.outside.specs.DiskImages.{LeavesOnly}

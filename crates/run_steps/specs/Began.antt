@@ -1,4 +1,4 @@
--- How a run began (this project's profile): its settings, the rows of its registry, what its one scan listed and at which moment, what folder and clock told
+-- How a run began (this project's profile): its settings, the rows of its registry, what its one scan listed and when, what folder and clock reported
 -- by then, how many outcomes each worker's wire had, and its areas before they were opened.
 use Rattle.std.specs.Prelude.{ℕ, Bool, List, Option}
 use Rattle.event_tree.specs.declared.settings.Settings.{Settings}
@@ -17,7 +17,7 @@ pub record Began (D : Type 0) : Type 0 where
   -- the others
   pub doubled : List Listed
   pub moment : ℕ
-  -- the folder behind the scan, and the clock before it
+  -- the folder after the scan, and the clock before it
   pub shown : Option FolderHistory
   pub moments : Option (List ℕ)
   -- worker by worker

@@ -1,5 +1,5 @@
--- Why files could not all be begun (this project's profile): where some file failed before, that goes first, unless memory is out; and what
--- the run has met then.
+-- Why files could not all be begun (this project's profile): if some file failed before, that goes first, unless out of memory; and what
+-- the cause that then ends the run.
 use Rattle.std.specs.Prelude.{Bool, true, false}
 use Rattle.run_steps.specs.declared.begin_error.BeginError.{BeginError}
 use Rattle.run_steps.specs.declared.begin_error.BeginError.TheVariants.{FolderFault, NoMemory, NoNative}

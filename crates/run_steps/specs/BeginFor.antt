@@ -1,5 +1,5 @@
--- How a listed file begins (this project's profile of Filebeat's registry), where the listing told its key: where the row of its key
--- stands, among those that the registry gave, as far as the file is long enough; else by that row's next epoch, from its first byte on.
+-- How a listed file begins (this project's profile of Filebeat's registry), if the listing gave its key: where the row of its key
+-- is, among those that the registry gave, as far as the file is long enough; else by that row's next epoch, from its first byte on.
 use Rattle.std.specs.Prelude.{◌≡◌, ℕ, List, Option, None, Some}
 use Rattle.prospect.specs.declared.listed.Listed.{Listed}
 use Rattle.restart_join.specs.Starts.{start_of}

@@ -23,7 +23,7 @@ pub record IsBeginnable {T W L : Type 0} (settings : Settings) (file : ListedFil
   pub start : file.start.base ≤ file.listed.size
   pub few : HasRoomToBegin file.listed keeper
 
--- all of a scan, by a keeper to which nothing was told
+-- all of a scan, by a keeper to which nothing was noted
 pub record AreBeginnable {T W L : Type 0} (settings : Settings) (scanned : Scanned) (crew : Crew T W L) (keeper : Keeping) : Type 0 where
   pub settings_in_range : AreInRange settings
   pub in_range : All IsListedInRange scanned.listed.items

@@ -1,5 +1,5 @@
 -- How a listed file begins (Filebeat reference, filestream input, file identity; this project's profile): it is opened and asked for its
--- key, the keeper is told of it, and the lane of its slot has its harvester.
+-- key, the keeper notes its begin, and the lane of its slot has its harvester.
 use Rattle.std.specs.Prelude.{◌≡◌, ◌≢◌, ◌⊎◌, ℕ, ◌%◌, ◌≤◌, false, List, [], ◌∷◌, ◌++◌, length, slice_get, Option, Some, None, Result, Ok, Err, IfErr, IfOk, IfSome, IsErrOf, IsNone, IsSome}
 use Rattle.event_tree.specs.declared.input_rule.InputRule.{InputRule}
 use Rattle.event_tree.specs.declared.settings.Settings.{Settings}
@@ -60,7 +60,7 @@ pub record IsOpenedFor {T : Type 0} (tails : TailWords T) (settings : Settings) 
   pub at_work : harvester.rests ≡ false
   pub tail_kept : harvester.tail ≡ tail
 
--- the lane of this number has one harvester more, behind its others; the other lanes are as they were
+-- the lane of this number has one more harvester, after its others; the other lanes are as they were
 pub record AdmitsAt {T : Type 0} (number : ℕ) (harvester : Harvester T) (old new : List (Laning T)) : Type 0 where
   pub front : List (Laning T)
   pub lane : Laning T
@@ -84,7 +84,7 @@ pub record SameLanes {T W L : Type 0} (old new : Crew T W L) : Type 0 where
   pub lanes : lanings new.lanes.items ≡ lanings old.lanes.items
   pub others : new ≡ record old { lanes = new.lanes }
 
--- the keeper was told of the file, and then the lane of its slot got its harvester
+-- the begin of the file was reported to the keeper, and then the lane of its slot got its harvester
 pub record TakesIn {T W L : Type 0} (file : ListedFile) (harvester : Harvester T) (old new : Beginning T W L) : Type 0 where
   pub tells : TellsBegin file.slot file.listed file.start old.keeper new.keeper
   pub admits : AdmitsAt (file.slot.0 % length old.crew.lanes.items) harvester (lanings old.crew.lanes.items) (lanings new.crew.lanes.items)
@@ -97,7 +97,7 @@ pub record Follows {T W L : Type 0} (tails : TailWords T) (settings : Settings) 
   pub opened : IsOpenedFor tails settings file tail harvester
   pub taken : TakesIn file harvester old new
 
--- out of memory, its tail was closed, and no lane has it; it may be that the keeper was told of it
+-- out of memory, its tail was closed, and no lane has it; it may be that its begin was reported to the keeper
 pub record GivesUp {T W L : Type 0} (tails : TailWords T) (file : ListedFile) (tail : T) (old new : Beginning T W L) : Type 0 where
   pub closes : Closes tails tail old.folder new.folder
   pub lanes : SameLanes old.crew new.crew
@@ -182,7 +182,7 @@ pub record GivesFileUp {T W L : Type 0} (tails : TailWords T) (settings : Settin
   pub keyed : HasListedKey tails settings file fresh tail
   pub gives_up : GivesUp tails file tail mid new
 
--- its tail was closed, and the keeper was told nothing
+-- its tail was closed, and nothing was reported to the keeper
 pub record ClosesUntold {T W L : Type 0} (tails : TailWords T) (tail : T) (old new : Beginning T W L) : Type 0 where
   pub closes : Closes tails tail old.folder new.folder
   pub crew : new.crew ≡ old.crew

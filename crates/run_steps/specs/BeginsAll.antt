@@ -1,5 +1,5 @@
 -- What beginning all listed files does (this project's profile): file by file, in the order of their slots, each is opened and
--- followed, or skipped where none is there, its key is another or it is too small for one, or it failed; and then the keeper is told when
+-- followed, or skipped if none is there, its key is another or it is too small for one, or it failed; and then it is noted when
 -- each was changed.
 use Rattle.std.specs.Prelude.{◌≡◌, ◌⊎◌, ◌||◌, ℕ, suc, ◌+◌, ◌-◌, ◌^◌, ◌<◌, ◌≤◌, Bool, true, false, List, [], ◌∷◌, ◌++◌, length, take, slice_get, Some, Ok, Err}
 use Rattle.std.specs.List.{AllByRecursion}
@@ -71,7 +71,7 @@ module _ {T W L : Type 0} (tails : TailWords T) (settings : Settings) where
     pub begins : BeginsOne tails settings file (Ok begun) old new
     pub more_is : more ≡ came_by begun file.listed
 
-  -- the call ended in it, where some file had failed before or none
+  -- the call ended in it, if some file had failed before or none
   pub record EndsBehind (file : ListedFile) (faulty : Bool) (error : BeginError) (old new : Beginning T W L) : Type 0 where
     pub what : BeginError
     pub begins : BeginsOne tails settings file (Err what) old new
@@ -97,7 +97,7 @@ module _ {T W L : Type 0} (tails : TailWords T) (settings : Settings) (rows : Li
   BeginsFrom slot (one ∷ listed) came old new = BeginsFirst slot one (λ later mid. BeginsFrom (suc slot) listed later mid new) came old
 
   module _ (listed : List Listed) where
-    -- each of them, and then the keeper was told when those were changed that are followed
+    -- each of them, and then it was reported to the keeper when those were changed that are followed
     pub record BeginsAll (came : Came) (old new : Beginning T W L) : Type 0 where
       pub mid : Beginning T W L
       pub begins : BeginsFrom 0 listed came old mid
@@ -106,7 +106,7 @@ module _ {T W L : Type 0} (tails : TailWords T) (settings : Settings) (rows : Li
 
     -- ---- where it ended early
 
-    -- in a file, behind the first so many
+    -- in a file, after the first so many
     pub record EndsInFile (error : BeginError) (old new : Beginning T W L) : Type 0 where
       pub count : ℕ
       pub came : Came
@@ -116,13 +116,13 @@ module _ {T W L : Type 0} (tails : TailWords T) (settings : Settings) (rows : Li
       pub is : slice_get listed count ≡ Some one
       pub ended : EndsBehind tails settings (file_at rows count one now) came.faulty error mid new
 
-    -- out of memory behind the first so many, as the last path was to be noted as skipped
+    -- out of memory after the first so many, as the last path was to be noted as skipped
     pub record EndsBehindFile (old new : Beginning T W L) : Type 0 where
       pub count : ℕ
       pub came : Came
       pub begins : BeginsFrom 0 (take count listed) came old new
 
-    -- out of memory behind all of them, as the keeper was told of some moments
+    -- out of memory after all of them, as some moments were reported to the keeper
     pub record EndsInMoments (old new : Beginning T W L) : Type 0 where
       pub came : Came
       pub mid : Beginning T W L
@@ -146,7 +146,7 @@ pub record IsOfRuledInput (settings : Settings) (listed : Listed) : Type 0 where
 abbrev pub IsOfInputs : Settings → Listed → Type 0
 IsOfInputs settings listed = listed.input < length settings.inputs
 
--- beginning so many files ends early where memory is out, or where one told no native numbers, maybe behind one that failed
+-- beginning these files ends early if out of memory, or if one had no native numbers, maybe after one that failed
 abbrev pub EndsBeginning : {T W L : Type 0} → ℕ → BeginError → Beginning T W L → Beginning T W L → Type 0
 EndsBeginning count NoMemory old new = Unit {0}
 EndsBeginning count FolderFault old new = Rose old.folder.faults new.folder.faults

@@ -19,7 +19,7 @@ use Rattle.run_steps.specs.LaterScans.{LaterScan}
 use Rattle.run_steps.specs.Renamed.{IsRenameOf}
 use Rattle.run_steps.specs.Telling.{moment_noted}
 
--- what the keeper is told of it; its change is noted behind all Begins
+-- what is reported to the keeper of it; its change is noted after all Begins
 abbrev pub noted_begin : Beginning → Note
 noted_begin begin = Begin begin.slot begin.key begin.path begin.epoch begin.base (record { 0 = 0 })
 
@@ -46,7 +46,7 @@ abbrev pub AreSlotsFrom : ℕ → List Opened → Type 0
 AreSlotsFrom least [] = Unit {0}
 AreSlotsFrom least (one ∷ others) = (least ≤ one.begin.slot.0) × AreSlotsFrom (one.begin.slot.0 + 1) others
 
--- the note tells when one of these was changed
+-- the note says when one of these was changed
 pub record IsSeenOf (rows : List Row) (listed : List Listed) (opened : List Opened) (note : Note) : Type 0 where
   pub file : Opened
   pub among : Contains opened file
@@ -66,13 +66,13 @@ abbrev pub MayBegin : List LaterScan → List Row → List Listed → List Opene
 MayBegin scans rows listed opened hiddens note =
     IsBeginOfFile opened note ⊎ (IsSeenOf rows listed opened note ⊎ (IsOfHidden hiddens note ⊎ IsRenameOf scans opened note))
 
--- the notes that it told, in whichever order: the Begin of each is among them
+-- the notes that it gave, in whichever order: the Begin of each is among them
 pub record AreBeginNotes (scans : List LaterScan) (rows : List Row) (listed : List Listed) (opened : List Opened) (hiddens : List Hidden) (notes : List Note) : Type 0 where
   pub each : AllByRecursion (MayBegin scans rows listed opened hiddens) notes
   pub begun : AllByRecursion (λ one. Contains notes (noted_begin one.begin)) opened
   pub hidden_begun : AllByRecursion (λ hidden. Contains notes (hidden_begin hidden)) hiddens
 
--- the keeper was told when each file was changed that was begun; a moment of 0 need not be told
+-- it was reported to the keeper when each file was changed that was begun; a moment of 0 need not be noted
 abbrev pub AreAllSeen : List Row → List Listed → List Note → Type 0
 AreAllSeen rows listed notes = (begin : Beginning) → Contains notes (noted_begin begin) →
     IfSome (slice_get listed begin.slot.0) (λ one. 0 < (moment_noted rows one).0 → Contains notes (Seen begin.slot (moment_noted rows one)))

@@ -23,7 +23,7 @@ pub record HasCarrierPasses {W L : Type 0} (carrier : Carrier W L) : Type 0 wher
   pub take : IsSome carrier.worker.take
   pub post : IsSome carrier.worker.post
 
--- this worker's wire once its link is finished: with it the talks are told of all that was acknowledged
+-- this worker's wire once its link is finished: with it the talks are known of all that was acknowledged
 pub record EndsCarrier {W L : Type 0} (links : LinkWords L) (wires : WireWords W) (carrier : Carrier W L) (wire : W) : Type 0 where
   pub finished : EndsLink links.told links.faults links.idles carrier.worker.link (seen_of wires carrier.wire) (seen_of wires wire)
   pub talks : (start : ℕ) (acknowledged : List Parcel) → StandsFor links.told start carrier.worker (wires.outcomes carrier.wire) acknowledged →

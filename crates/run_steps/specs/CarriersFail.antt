@@ -1,5 +1,5 @@
 -- How the workers of a run fail (Filebeat reference, Logstash output, `timeout` and `max_retries`; this project's profile): by the
--- outcomes of their wires since the run began, and by the moments that the clock gave since then. It is said where these were told
+-- outcomes of their wires since the run began, and by the moments that the clock gave since then. It is said if these are known
 -- as the run began. A worker that failed as often in a row as it may has no link, and the run ends.
 use Rattle.std.specs.Prelude.{◌≡◌, ◌⊎◌, ℕ, ◌<◌, List, length, map, drop, take, slice_get, Option, Some, None, IfSome, is_some}
 use Rattle.accounts.specs.Failing.{IsFailing}
@@ -14,7 +14,7 @@ use Rattle.run_steps.specs.MetIn.{HasTriesLeft, NoneFailed}
 use Rattle.run_steps.specs.declared.met.Met.{Met}
 use Rattle.run_steps.specs.declared.met.Met.TheVariants.{DiskFault, Done, Epochs, FolderFault, NoMemory, NoNative, Stopped, Unreachable}
 
--- how many outcomes a wire has told; none where it does not tell
+-- how many outcomes of a wire are known; none if its outcomes are not
 abbrev pub count_told : Option (List Outcome) → Option ℕ
 count_told None = None
 count_told (Some list) = Some (length list)
@@ -25,7 +25,7 @@ counts_told {W} wires workers all = map (λ (w : W). count_told (wires.outcomes 
 
 -- ---- between two steps
 
--- what the clock told, and the workers
+-- what is known of the clock, and the workers
 pub record Sending (W L : Type 0) : Type 0 where
   pub moments : Option (List ℕ)
   pub carriers : List (Carrier W L)
@@ -47,14 +47,14 @@ module _ {W L : Type 0} (links : LinkWords L) (wires : WireWords W) (attempts ti
   abbrev pub AreFailing : ℕ → List (Option ℕ) → Sending W L → Type 0
   AreFailing earlier starts now = IfSome now.moments (λ moments. (earlier < length moments) × Pairs (CarrierFails (drop earlier moments)) starts now.carriers)
 
--- where they fail so before a step, none as often as it may, they fail so behind it; a word, so that no search takes it apart
+-- if they fail this way before a step, none as often as it may, the same holds after it; a name, so that no search takes it apart
 unfoldable pub FailOn : {W L : Type 0} → LinkWords L → WireWords W → ℕ → Sending W L → Sending W L → Type 0
 FailOn links wires attempts before after = (timeout earlier : ℕ) (starts : List (Option ℕ)) → 0 < timeout → NoneFailed attempts before.carriers →
     AreFailing links wires attempts timeout earlier starts before → AreFailing links wires attempts timeout earlier starts after
 
 -- ---- once rounds are over
 
--- no wire is touched, and a worker has a link where it had one
+-- no wire is touched, and a worker has a link if it had one
 pub record KeepsLink {W L : Type 0} (old new : Carrier W L) : Type 0 where
   pub wire : new.wire ≡ old.wire
   pub linked : is_some new.worker.link ≡ is_some old.worker.link
@@ -64,7 +64,7 @@ LinksStay old new = Pairs KeepsLink old new
 
 -- ---- as the run ends
 
--- the last so many outcomes from this place on are failures, or the wire's count of faults stands at its end, from where on what was
+-- the last outcomes, as many as this, from this place on are failures, or the wire's count of faults is at its end, from where on what was
 -- refused is not listed
 pub record HasFailedSince {W : Type 0} (wires : WireWords W) (attempts timeout : ℕ) (moments : List ℕ) (start : ℕ) (wire : W) : Type 0 where
   pub all : List Outcome
@@ -75,7 +75,7 @@ abbrev pub FailedWhereTold : {W : Type 0} → WireWords W → ℕ → ℕ → Li
 FailedWhereTold wires attempts timeout moments None wire = Unit {0}
 FailedWhereTold wires attempts timeout moments (Some start) wire = HasFailedSince wires attempts timeout moments start wire
 
--- a worker that is called unreachable failed so; where the wires had told so many outcomes as the run began
+-- a worker that is called unreachable failed this way; if the wires had reported this many outcomes as the run began
 module _ {W : Type 0} (wires : WireWords W) (attempts timeout earlier : ℕ) (starts : List (Option ℕ)) (moments : Option (List ℕ)) (all : List W) where
   abbrev pub HasFailedAt : ℕ → Type 0
   HasFailedAt worker = IfSome moments (λ list. (start : Option ℕ) (wire : W) → slice_get starts worker ≡ Some start → slice_get all worker ≡ Some wire →

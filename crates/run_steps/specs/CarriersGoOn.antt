@@ -1,6 +1,6 @@
--- How the wires of a run's workers go on (this project's profile): what a wire told stays in front of what it tells, and it has as many links
--- of others as before, beside its worker's own where the worker has one. As the run ends no worker has a link any more. Where the links of
--- others stand at the end of their count, one more is not counted.
+-- How the wires of a run's workers go on (this project's profile): what a wire reported stays the front of it, and it has as many links
+-- of others as before, besides its worker's own if the worker has one. As the run ends no worker has a link any more. If the links of
+-- others are at the end of their count, one more is not counted.
 use Rattle.std.specs.Prelude.{◌≡◌, ℕ, List, ◌++◌, Option, None}
 use Rattle.batch_worker.specs.Seen.{Seen, with_link}
 use Rattle.outside.specs.Counts.{IsAtEnd}
@@ -27,7 +27,7 @@ module _ {W L : Type 0} (wires : WireWords W) where
 unfoldable pub CarriersGoOn : {W L : Type 0} → WireWords W → List (Carrier W L) → List (Carrier W L) → Type 0
 CarriersGoOn wires old new = Pairs (CarrierGoesOn wires) old new
 
--- the wires of all of them stand before those that no worker had
+-- the wires of all of them come before those that no worker had
 pub record WiresReturn {W L : Type 0} (wires : WireWords W) (carriers : List (Carrier W L)) (unused all : List W) : Type 0 where
   pub ended : List W
   pub is : all ≡ ended ++ unused

@@ -1,4 +1,4 @@
--- A clock goes on (this project's profile): what it told stays in front of what it tells.
+-- A clock goes on (this project's profile): what it reported stays the front of what it reports.
 use Rattle.std.specs.Prelude.{◌≡◌, ℕ, List, ◌++◌, Option, Some, None}
 
 abbrev pub MomentsGoOn : Option (List ℕ) → Option (List ℕ) → Type 0

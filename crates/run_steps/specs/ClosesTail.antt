@@ -40,7 +40,7 @@ pub record ClosesTail {T : Type 0} (tails : TailWords T) (one : Harvester T) (ol
   pub closes : Closes tails one.tail old.folder new.folder
   pub in_epoch : IsInEpoch tails one
 
--- these, one behind the other
+-- these, one after another
 abbrev pub ClosesTails : {T : Type 0} → TailWords T → List (Harvester T) → Readers T → Readers T → Type 0
 ClosesTails tails [] old new = new ≡ old
 ClosesTails {T} tails (one ∷ more) old new = (mid : Readers T) × ClosesTail tails one old mid × ClosesTails tails more mid new
@@ -55,7 +55,7 @@ pub record ClosesSome {T : Type 0} (tails : TailWords T) (old new : Readers T) :
 
 -- ---- those that a round calls failed
 
--- the lane's turns met a read fault of some file
+-- the lane's turns hit a read fault of some file
 abbrev pub HasFailedFile : {T : Type 0} → Laning T → Type 0
 HasFailedFile lane = IsSome lane.tally.failed
 
@@ -64,7 +64,7 @@ abbrev pub some_failed : {T : Type 0} → List (Laning T) → Bool
 some_failed [] = false
 some_failed (lane ∷ lanes) = is_some lane.tally.failed || some_failed lanes
 
--- a harvester of this slot was let go, if there was one
+-- a harvester of this slot was released, if there was one
 abbrev pub LetsSlotGo : {T : Type 0} → Option Slot → Laning T → Laning T → Type 0
 LetsSlotGo None old new = new ≡ old
 LetsSlotGo {T} (Some slot) old new = ((one : Harvester T) × Releases slot old new one) ⊎ (All (IsOfAnother slot) old.harvesters × (new ≡ old))
@@ -91,6 +91,6 @@ pub record ReadersGo {T : Type 0} (tails : TailWords T) (old new : Readers T) : 
   pub fewer : length (harvesters_of new.lanes) ≤ length (harvesters_of old.lanes)
   pub open_tails : new.folder.open_tails ≡ old.folder.open_tails - (length (harvesters_of old.lanes) - length (harvesters_of new.lanes))
   pub slots : (slot : Slot) → HaveSlot slot new.lanes → HaveSlot slot old.lanes
-  -- a fault that was met is counted still
+  -- a fault that was hit is counted still
   pub fault_stays : (since : ℕ) → since ≤ old.folder.faults → HasMetFault tails since old.folder.faults old.lanes →
       HasMetFault tails since new.folder.faults new.lanes

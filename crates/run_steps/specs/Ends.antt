@@ -1,5 +1,5 @@
 -- How a run ends (this project's profile): its tails are closed, what was settled is stored, its workers' links are finished, and
--- what stood of it stands.
+-- what held of it holds.
 use Rattle.std.specs.Prelude.{◌≡◌, ℕ, ◌+◌, ◌≤◌, ◌<◌, ◌^◌, ◌-◌, List, Option}
 use Rattle.keeper.specs.Keeping.{Keeping}
 use Rattle.lanes.specs.Laning.{Laning}
@@ -18,12 +18,12 @@ use Rattle.run_steps.specs.Stands.{Stands}
 use Rattle.run_steps.specs.declared.met.Met.{Met}
 use Rattle.run_steps.specs.declared.met.Met.TheVariants.{Done, Epochs, Stopped}
 
--- all that was told is shipped or dropped, by counts that are not saturated
+-- all that was reported is shipped or dropped, by counts that are not saturated
 pub record IsAllSettled {T : Type 0} (lanes : List (Laning T)) (keeper : Keeping) : Type 0 where
   pub below : spans_told lanes < 2 ^ 64 - 1
   pub settled : spans_told lanes ≤ keeper.shipped + keeper.dropped
 
--- all but the crew, which is let go
+-- all but the crew, which is released
 pub record Ending (D : Type 0) : Type 0 where
   pub shown : Option FolderHistory
   pub moments : Option (List ℕ)
@@ -49,10 +49,10 @@ pub record Ends {T W L D : Type 0} (words : Words T W L D) (start : Began D) (en
   pub so_far : SoFar
   pub stands : Stands words start (with_crew ending crew) so_far
   pub ended : EndsCarriers words.links words.wires crew.carriers.items unused wires
-  -- a run that is done told each file to its end, and settled all of it
+  -- a run that is done reported each file to its end, and settled all of it
   pub finished : met ≡ Done → ending.phase ≡ Finished
   pub out_of_epochs : (slot : Slot) → met ≡ Epochs slot → ending.phase ≡ OutOfEpochs slot
   pub stopped : met ≡ Stopped → ending.phase ≡ Halted
   pub all_settled : met ≡ Done → IsAllSettled (lanings crew.lanes.items) ending.keeper
-  -- where the last steps were made
+  -- if the last steps were made
   pub stored : AreLeft met → AreSettledIn crew ending.keeper

@@ -16,7 +16,7 @@ use Rattle.rounds.specs.Pairs.{SomeOf}
 abbrev pub IsLengthLook : Look → Type 0
 IsLengthLook look = look.question ≡ Length
 
--- a tail was asked so, by what it tells, open or closed
+-- a tail was asked this way, by what it reports, open or closed
 pub record WasLookedAt (trace : Trace) (tail : FollowedTail) : Type 0 where
   pub looks : List Look
   pub tells : looks_of trace tail.opening ≡ Some looks

@@ -11,7 +11,7 @@ use Rattle.outside.specs.declared.history.Sight.{Sight}
 use Rattle.rounds.specs.Words.{TailWords}
 use Rattle.run_steps.specs.Releasing.{closing_of, with_events}
 
--- its files and what was done so far, where it tells them; what a call now finds; how many tails are open; its faults
+-- its files and what was done so far, if they are known; what a call now finds; how many tails are open; its faults
 pub record FolderSeen : Type 0 where
   pub told : Option FolderHistory
   pub states : List Sight

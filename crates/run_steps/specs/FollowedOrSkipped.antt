@@ -1,5 +1,5 @@
 -- What came of the files that were to be followed (this project's profile): each of them, in the order of the list, is followed, or its path is
--- told with the reason for which it was skipped; and no other path is told. Each that was skipped has an opening of its own, one behind the other.
+-- reported with the reason for which it was skipped; and no other path is reported. Each that was skipped has an opening of its own, in sequence.
 use Rattle.std.specs.Prelude.{◌≡◌, ◌⊎◌, ℕ, suc, ◌≤◌, Any, Contains, List, [], ◌∷◌, slice_get, Some}
 use Rattle.kept_rows.specs.Account.{FollowedTail, SlotAccount, key_of, slot_of}
 use Rattle.kept_rows.specs.Run.{Run}
@@ -13,8 +13,8 @@ use Rattle.run_steps.specs.SkippedFor.{IsSkippedFor}
 -- ---- file by file
 
 module _ (Follows : ℕ → Listed → Type 0) (Skips : ℕ → Listed → ℕ → Why → Type 0) where
-  -- the first path that is told is that of this file, which was skipped by an opening at this place of the folder's list or behind it; the rest are
-  -- of files that were opened behind that
+  -- the first path reported is that of this file, which was skipped by an opening at this place of the folder's list or after it; the rest are
+  -- of files that were opened after that
   pub record SkipsFirst (slot place : ℕ) (one : Listed) (Rest : ℕ → List Passing → Type 0) (passed : List Passing) : Type 0 where
     pub opening : ℕ
     pub since : place ≤ opening
@@ -24,7 +24,7 @@ module _ (Follows : ℕ → Listed → Type 0) (Skips : ℕ → Listed → ℕ �
     pub passed_are : passed ≡ record { path = one.path; why = why } ∷ later
     pub rest : Rest (suc opening) later
 
-  -- these files, the first of which has this slot; the openings by which some were skipped stand from this place on
+  -- these files, the first of which has this slot; the openings by which some were skipped are from this place on
   abbrev pub FollowsOrSkips : ℕ → ℕ → List Listed → List Passing → Type 0
   FollowsOrSkips slot place [] passed = passed ≡ []
   FollowsOrSkips slot place (one ∷ listed) passed =
@@ -39,7 +39,7 @@ IsInAccount account one = Any (λ slot. one.key ≡ Some (key_of slot)) account
 
 -- of a run whose scan ended at this place of the folder's list
 module _ (run : Run) (account : List SlotAccount) (scanned : ℕ) where
-  -- the slot of this number has the file's key and input, and a tail that was opened by its path behind the scan
+  -- the slot of this number has the file's key and input, and a tail that was opened by its path after the scan
   pub record IsFollowedInSlot (number : ℕ) (one : Listed) : Type 0 where
     pub slot : SlotAccount
     pub of_account : Contains account slot

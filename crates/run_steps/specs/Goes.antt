@@ -1,4 +1,4 @@
--- What each step of a run keeps between its beginning and its end (this project's profile), whatever else it does: what is told and stored
+-- What each step of a run keeps from its beginning to its end (this project's profile), whatever else it does: what is reported and stored
 -- goes on, no count falls, lanes and workers are as many, no file comes, and each object is the same one. The keeper collects, unless the step tells
 -- it notes. Two steps in a row are one.
 use Rattle.std.specs.Prelude.{◌≡◌, ◌≤◌, ℕ, List, Option, IfNone}
@@ -108,5 +108,5 @@ module _ {T W L D F K B : Type 0} (words : StepWords T W L D F K B) (context : C
 
   pub record Goes (met : Option Met) (before after : Stop T W L D F K B) : Type 0 where
     pub keeps : Keeps Collects met before after
-    -- what was known of the events told, that notes are backed, and of what the areas may hold, is known of them afterwards
+    -- what was known of the reported events, that notes are backed, and of what the areas may hold, is known of them afterwards
     pub onward : Onward words.all (rules_of context) (state_at words before) (state_at words after)

@@ -1,6 +1,6 @@
 -- Which rows of the registry a scan hides (Filebeat reference, filestream input, `clean_removed`; this project's profile), and what the keeper
--- is told of them: of each row that is removed, in their order and by slots behind those of the listed files, how its slot begins, where the
--- row stands, and that it goes.
+-- is noted of them: of each row that is removed, in their order and by slots after those of the listed files, how its slot begins, where the
+-- row is, and that it goes.
 use Rattle.std.specs.Prelude.{◌≡◌, ◌⊎◌, ℕ, suc, Contains, List, [], ◌∷◌, ◌++◌, length, slice_get, take, Option, None, Some, Result, Ok, Err}
 use Rattle.std.specs.BTreeSet.{BTreeSet}
 use Rattle.std.specs.List.{AllByRecursion, flat_map}
@@ -43,13 +43,13 @@ module _ (inputs : List InputRule) (listed : List Listed) where
       ((¬ (IsRemoved inputs listed row.key)) × AreHiddenAmong slot rows hiddens)
       ⊎ GoesFirst slot row (λ later. AreHiddenAmong (suc slot) rows later) hiddens
 
-  -- those of the first of these rows, behind the slots of the listed files
+  -- those of the first of these rows, after the slots of the listed files
   pub record AreHiddenSoFar (rows : List Row) (hiddens : List Hidden) : Type 0 where
     pub ordered : IsInOrder rows
     pub count : ℕ
     pub are : AreHiddenAmong (length listed) (take count rows) hiddens
 
--- ---- what is told of them
+-- ---- what is noted of them
 
 abbrev pub hidden_notes : List Hidden → List Note
 hidden_notes hiddens = flat_map (λ hidden. hidden_begin hidden ∷ hidden_forget hidden ∷ []) hiddens
@@ -62,7 +62,7 @@ module _ (inputs : List InputRule) (listed : List Listed) (rows : List Row) (old
     pub are : AreHiddenAmong inputs listed (length listed) rows hiddens
     pub tells : TellsNotes (hidden_notes hiddens) old new
 
-  -- of the first of them; of the last one perhaps the Begin alone
+  -- of the first of them; of the last one perhaps only the Begin
   pub record TellsSomeHidden : Type 0 where
     pub hiddens : List Hidden
     pub so_far : AreHiddenSoFar inputs listed rows hiddens
@@ -72,14 +72,14 @@ module _ (inputs : List InputRule) (listed : List Listed) (rows : List Row) (old
     pub begun : AllByRecursion (λ hidden. Contains told (hidden_begin hidden)) hiddens
     pub tells : TellsNotes told old new
 
--- once files were begun: all of them were told, or memory was out behind some; where files could not all be begun, none was
+-- once files were begun: all of them were noted, or memory ran out after some; if files could not all be begun, none was
 abbrev pub HidesBegun : List InputRule → List Listed → Result BegunFiles BeginError → Result BegunFiles BeginError → Keeping → Keeping → Type 0
 HidesBegun inputs listed (Ok files) (Ok same) old new = (same ≡ files) × TellsHidden inputs listed old.store.rows old new
 HidesBegun inputs listed (Ok files) (Err what) old new = (what ≡ NoMemory) × TellsSomeHidden inputs listed old.store.rows old new
 HidesBegun inputs listed (Err what) (Ok files) old new = ⊥
 HidesBegun inputs listed (Err what) (Err other) old new = (other ≡ what) × (new ≡ old)
 
--- the row was told of so: its slot begins where it stood
+-- the row was noted this way: its slot begins where it was
 pub record WasTold (notes : List Note) (row : Row) : Type 0 where
   pub hidden : Hidden
   pub row_is : hidden.row ≡ row
@@ -93,7 +93,7 @@ AreAllForgotten inputs listed rows notes = AllByRecursion (λ row. IsRemoved inp
 -- ---- for private clauses, by the set of the keys of listed files
 
 module _ (inputs : List InputRule) (keys : BTreeSet (List ℕ)) (slot : ℕ) (row : Row) (old new : Keeping) where
-  -- it was told of, and the next slot is the one behind it
+  -- it was noted, and the next slot is the one after it
   pub record TellsRow (next : ℕ) : Type 0 where
     pub beside : IsCleanedBeside inputs keys row.key
     pub next_is : next ≡ suc slot
@@ -108,7 +108,7 @@ module _ (inputs : List InputRule) (keys : BTreeSet (List ℕ)) (slot : ℕ) (ro
   abbrev pub TellsOrLeaves : ℕ → Type 0
   TellsOrLeaves next = TellsRow next ⊎ LeavesRow next
 
-  -- out of memory behind its Begin, or before it
+  -- out of memory after its Begin, or before it
   pub record BeginsRow : Type 0 where
     pub beside : IsCleanedBeside inputs keys row.key
     pub tells : TellsNotes (hidden_begin (hidden_as inputs slot row beside.cleaned) ∷ []) old new

@@ -15,7 +15,7 @@ BeginsAmong keys (Rename slot scan path) = Unit {0}
 BeginsAmong keys (Seen slot changed) = Unit {0}
 BeginsAmong keys (Forget slot epoch end) = Unit {0}
 
--- its stored rows and the Begins that it was told have these keys
+-- its stored rows and the Begins that it noted have these keys
 pub record KnowsAmong (keys : List (List ℕ)) (keeper : Keeping) : Type 0 where
   pub few : length keys ≤ 65_536
   pub of_rows : All (λ row. Contains keys row.key) keeper.store.rows

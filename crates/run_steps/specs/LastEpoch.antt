@@ -1,6 +1,6 @@
 -- A file whose last epoch is over (Filebeat reference, filestream input; this project's profile): its length was below what was read, its
--- key was the same, and no further epoch is left. What the folder told shows it: the epoch with which it began and the falls of its length
--- since then, at each of which it still had its key, make one above the last epoch. The account of a run that tells a report has no such file.
+-- key was the same, and no further epoch is left. What the folder reported shows it: the epoch with which it began and its length's falls
+-- since then, at each of which it still had its key, make one above the last epoch. The account of a run that gives a report has no such file.
 use Rattle.std.specs.Prelude.{◌≡◌, ◌⊎◌, ℕ, ◌+◌, ◌-◌, ◌≤◌, List, [], length, slice_get, Some}
 use Rattle.std.specs.List.{AllByRecursion}
 use Rattle.accounts.specs.FollowedFile.{MayReopenAt}
@@ -27,7 +27,7 @@ use Rattle.run_steps.specs.BeginFor.{start_among}
 use Rattle.run_steps.specs.RunState.{Finished, Halted, Leaving, OutOfEpochs, Phase, Reading}
 use Rattle.told_scans.specs.OnlyAsked.{WasClosedWith}
 
--- ---- by what its turns told
+-- ---- by what its turns reported
 
 -- it is of the slot, and a turn found that its last epoch is over
 pub record IsLastOver (slot : Slot) (turned : Turned) : Type 0 where
@@ -35,7 +35,7 @@ pub record IsLastOver (slot : Slot) (turned : Turned) : Type 0 where
   pub over : turned.history.stage ≡ Over
   pub last : turned.history.present.epoch ≡ MAX_EPOCH
 
--- in a run that is left for want of epochs, one of its files is the one that is so
+-- in a run that ended because epochs ran out, one of its files is the one that has none left
 abbrev pub HaveOneOver : Phase → List Turned → Type 0
 HaveOneOver Reading files = Unit {0}
 HaveOneOver Finished files = Unit {0}
@@ -52,7 +52,7 @@ pub record IsAnswered (history : History) : Type 0 where
   pub answered : MayReopenAt history.stage
   pub epoch : history.present.epoch ≤ MAX_EPOCH
 
--- whatever it told, its present epoch is one that there is
+-- whatever it reported, its present epoch is one that there is
 abbrev pub IsInEpoch : {T : Type 0} → TailWords T → Harvester T → Type 0
 IsInEpoch tails harvester = (history : History) → HasTold tails.numbers tails.told history harvester → history.present.epoch ≤ MAX_EPOCH
 
@@ -60,7 +60,7 @@ IsInEpoch tails harvester = (history : History) → HasTold tails.numbers tails.
 abbrev pub AreToldInEpochs : List Telling → Type 0
 AreToldInEpochs tellings = AllByRecursion (λ telling. (telling.told ≡ []) ⊎ (telling.epoch ≤ MAX_EPOCH)) tellings
 
--- ---- by what the folder told
+-- ---- by what the folder reported
 
 -- how often the looks of a tail that went on from this place found the length below what was read: each fall begins a segment
 abbrev pub falls_in : ℕ → List Look → ℕ

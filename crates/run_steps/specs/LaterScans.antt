@@ -12,7 +12,7 @@ use Rattle.prospect.specs.declared.listed.Listed.{Listed}
 use Rattle.told_scans.specs.ToldScan.{IsTold, IsToldWithFault, IsToldWithoutFault, ToldScan}
 use Rattle.run_steps.specs.Began.{Began}
 
--- what the folder told of it, if it tells
+-- what is known of it by the folder, if anything is
 pub record LaterScan : Type 0 where
   pub moment : ℕ
   -- the first file of each key, and the others
@@ -25,7 +25,7 @@ pub record LaterScan : Type 0 where
 abbrev pub told_in : List LaterScan → List ToldScan
 told_in scans = filter_map (λ scan. scan.told) scans
 
--- what the folder told of the scan is what the run knows of it
+-- what the folder reported of the scan is what the run knows of it
 pub record IsKnownScan (scan : LaterScan) : Type 0 where
   pub told : ToldScan
   pub told_is : scan.told ≡ Some told
@@ -35,7 +35,7 @@ pub record IsKnownScan (scan : LaterScan) : Type 0 where
   pub whole : scan.whole ≡ true → IsToldWithoutFault told
   pub partial : scan.whole ≡ false → IsToldWithFault told
 
--- the next one: between what the folder told before it and what it tells after it
+-- the next one: between what the folder reported before it and what it reports after it
 pub record IsNextScan (settings : Settings) (now : FolderHistory) (scan : LaterScan) (after : FolderHistory) : Type 0 where
   pub known : IsKnownScan scan
   pub settings_are : known.told.settings ≡ settings

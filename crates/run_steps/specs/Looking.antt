@@ -18,7 +18,7 @@ use Rattle.run_steps.specs.Releasing.{harvesters_of}
 
 -- ---- open tails
 
--- a tail that tells was asked for its file's length
+-- a tail whose looks are known was asked for its file's length
 abbrev pub HasLooked : Option TailHistory → Type 0
 HasLooked told = IfSome told (λ tail. SomeOf IsLengthLook tail.looks)
 
@@ -58,7 +58,7 @@ LooksSoFar tails before now =
 
 -- ---- closed tails
 
--- one that was opened behind the first so many things that the folder did told such a look, and was closed
+-- one that was opened after the first things that the folder did, as many as this, reported such a look, and was closed
 pub record HasLookedSince (before after : FolderHistory) : Type 0 where
   pub opening : ℕ
   pub path : List ℕ
@@ -70,6 +70,6 @@ pub record HasLookedSince (before after : FolderHistory) : Type 0 where
   pub closed : WasClosedWith after opening looks
   pub asked : SomeOf IsLengthLook looks
 
--- where the folder tells
+-- if the folder is known
 abbrev pub LooksSince : Option FolderHistory → Option FolderHistory → Type 0
 LooksSince first last = (before after : FolderHistory) → first ≡ Some before → last ≡ Some after → HasLookedSince before after

@@ -1,4 +1,4 @@
--- What a run met (this project's profile): which files it may name, after what the last steps are made, and after what a report is told.
+-- What a run hit (this project's profile): which files it may name, after what the last steps are made, and after what a report is given.
 use Rattle.std.specs.Prelude.{ℕ, ◌<◌}
 use Rattle.run_steps.specs.declared.met.Met.{Met}
 use Rattle.run_steps.specs.declared.met.Met.TheVariants.{DiskFault, Done, Epochs, FolderFault, NoMemory, NoNative, Stopped, Unreachable}
@@ -14,7 +14,7 @@ IsMetOf count (Unreachable worker) = Unit {0}
 IsMetOf count (Epochs slot) = slot.0 < count
 IsMetOf count (NoNative slot) = slot.0 < count
 
--- behind it the last steps are made
+-- after it the last steps are made
 abbrev pub AreLeft : Met → Type 0
 AreLeft Done = Unit {0}
 AreLeft Stopped = Unit {0}
@@ -25,7 +25,7 @@ AreLeft (Unreachable worker) = Unit {0}
 AreLeft (Epochs slot) = Unit {0}
 AreLeft (NoNative slot) = Unit {0}
 
--- a run that met it tells a report
+-- a run that hit it gives a report
 abbrev pub IsTelling : Met → Type 0
 IsTelling Done = Unit {0}
 IsTelling Stopped = Unit {0}

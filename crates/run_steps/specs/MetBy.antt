@@ -70,7 +70,7 @@ module _ {T W L D : Type 0} (tails : TailWords T) (disks : DiskWords D) (attempt
   IsMetBy since (Epochs slot) = SomeHarvester (IsOverOf slot) (lanings since.now.lanes.items)
   IsMetBy since (NoNative slot) = ⊥
 
-  -- or some file met a fault before that
+  -- or some file hit a fault before that
   abbrev pub IsEndedBy : Bool → Since T W L D → Met → Type 0
   IsEndedBy faulty since Done = IsMetBy since Done
   IsEndedBy faulty since Stopped = IsMetBy since Stopped
@@ -81,7 +81,7 @@ module _ {T W L D : Type 0} (tails : TailWords T) (disks : DiskWords D) (attempt
   IsEndedBy faulty since (Epochs slot) = IsMetBy since (Epochs slot)
   IsEndedBy faulty since (NoNative slot) = IsMetBy since (NoNative slot)
 
-  -- what ended a round, as it left the lanes before files that failed in it were closed: a file's fault alone does not
+  -- what ended a round, as it left the lanes before files that failed in it were closed: a file's fault by itself does not
   pub record IsEndedRound (since : Since T W L D) (met : Met) : Type 0 where
     pub by : Met
     pub no_fault : by ≢ FolderFault
@@ -101,7 +101,7 @@ abbrev pub GoesOn : Option Met → Type 0
 GoesOn None = Unit {0}
 GoesOn (Some met) = AreLeft met
 
--- the phase of a run behind it
+-- the phase of a run after it
 abbrev pub phase_met : Met → Phase
 phase_met Done = Finished
 phase_met Stopped = Reading
@@ -116,12 +116,12 @@ abbrev pub phase_of : Option Met → Phase
 phase_of None = Reading
 phase_of (Some met) = phase_met met
 
--- the phase of a run that reads, by whether some file met a fault
+-- the phase of a run that reads, by whether some file hit a fault
 abbrev pub phase_reading : Bool → Phase
 phase_reading false = Reading
 phase_reading true = Leaving
 
--- and behind a round of it
+-- and after a round of it
 abbrev pub phase_after : Bool → Option Met → Phase
 phase_after false met = phase_of met
 phase_after true met = Leaving

@@ -1,4 +1,4 @@
--- What ends the run in a round (this project's profile): where a round met several causes, the first in this order. A read fault ends
+-- What ends the run in a round (this project's profile): if a round hit several causes, the first in this order. A read fault ends
 -- the run of one file alone, and the run has met it once the others are at their ends.
 use Rattle.std.specs.Prelude.{◌≡◌, ℕ, ◌<◌, ◌≤◌, Bool, true, false, List, All, take, slice_get, Option, Some, None, Result, Ok, Err}
 use Rattle.keeper.specs.Keeping.{Keeping}
@@ -62,7 +62,7 @@ met_behind true (Unreachable worker) = FolderFault
 met_behind true (Epochs slot) = FolderFault
 met_behind true (NoNative slot) = FolderFault
 
--- whether some file met a fault, where the run goes on, or what it has met
+-- whether some file hit a fault, if the run goes on, or what it has hit
 abbrev pub read_by : Bool → Option Met → Result Bool Met
 read_by faulty None = Ok faulty
 read_by faulty (Some met) = Err (met_behind faulty met)

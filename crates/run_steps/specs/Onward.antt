@@ -1,4 +1,4 @@
--- The one relation that each step of a run keeps (this project's profile): where a run stands before the step, it stands behind it. The
+-- The one relation that each step of a run keeps (this project's profile): if it holds of a run before the step, it holds after it. The
 -- steps are those of runs with these settings, that read their files once, or of runs that do not.
 use Rattle.std.specs.Prelude.{◌≡◌, Bool}
 use Rattle.event_tree.specs.declared.settings.Settings.{Settings}

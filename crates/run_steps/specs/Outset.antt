@@ -1,5 +1,5 @@
--- How a run sets out (this project's profile): its settings, what its one scan listed and at which moment, what its objects told by
--- then, and a keeper to which nothing was told over the opened store.
+-- How a run sets out (this project's profile): its settings, what its one scan listed and at which moment, what its objects reported by
+-- then, and a keeper to which nothing was noted over the opened store.
 use Rattle.std.specs.Prelude.{◌≡◌, ℕ, Bool, List, [], Option, false, map, take}
 use Rattle.std.specs.List.{AllByRecursion}
 use Rattle.atomic_table.specs.Seated.{TableId}
@@ -54,7 +54,7 @@ began_with {W} wires outset earlier = record {
   b = earlier.b;
 }
 
--- the clock gave its moment, its areas gave the rows of its store and, where they were at rest, have held no others since, and each listed file is of an input
+-- the clock gave its moment, its areas gave the rows of its store and, if they were at rest, have held no others since, and each listed file is of an input
 -- whose rules are in their ranges
 pub record SetsOut {W D : Type 0} (disks : DiskWords D) (start : Began D) (outset : Outset W D) : Type 0 where
   pub gives : GivesMoment start.moments start.moment outset.moments

@@ -1,4 +1,4 @@
--- Which paths a run skipped as it opened files (this project's profile), also where its folder does not tell why: those of some listed files,
+-- Which paths a run skipped as it opened files (this project's profile), also if its folder does not say why: those of some listed files,
 -- in the order of the list.
 use Rattle.std.specs.Prelude.{◌≡◌, List, [], ◌∷◌, ◌++◌}
 use Rattle.prospect.specs.declared.listed.Listed.{Listed}

@@ -4,7 +4,7 @@ use Rattle.std.specs.Prelude.{ℕ, ◌+◌, ◌-◌, ◌^◌, ◌<◌, ◌≤◌
 use Rattle.outside.specs.declared.bell.Bell.{Ghosts as BellGhosts}
 use Rattle.outside.specs.declared.clock.Clock.{Ghosts as ClockGhosts}
 
--- how many moments the clock has given, each that differs from the one before it; where it tells
+-- how many moments the clock has given, each that differs from the one before it; if they are known
 abbrev pub count_given : Option (List ℕ) → ℕ
 count_given None = 0
 count_given (Some moments) = length moments
@@ -25,6 +25,6 @@ pub record AsksOn (more : ℕ) (before after : Questions) : Type 0 where
   pub as_often : after.clock < 2 ^ 64 - 1 → after.bell < 2 ^ 64 - 1 → after.bell + before.clock ≤ after.clock + before.bell + more
   pub gives : after.clock < 2 ^ 64 - 1 → after.given + before.clock ≤ after.clock + before.given
 
--- the clock was asked for each of these moments, where the count of its questions is not at its end
+-- the clock was asked for each of these moments, if the count of its questions is not at its end
 abbrev pub WasAskedFor : ℕ → ℕ → List ℕ → Type 0
 WasAskedFor before after moments = after < 2 ^ 64 - 1 → before + length moments ≤ after

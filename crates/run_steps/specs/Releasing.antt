@@ -5,12 +5,12 @@ use Rattle.lanes.specs.Laning.{Laning}
 use Rattle.outside.specs.Folders.{Event, Closed, FolderHistory}
 use Rattle.outside.specs.Tails.{TailHistory}
 
--- the closing of a tail, where it tells
+-- the closing of a tail, if its looks are known
 abbrev pub closing_of : Option TailHistory → ℕ → List Event
 closing_of None faults = []
 closing_of (Some tail) faults = Closed tail.opening tail.looks faults ∷ []
 
--- what a folder tells behind these, where it tells anything
+-- what is known of a folder after these, if anything is known of it
 abbrev pub with_events : List Event → Option FolderHistory → Option FolderHistory
 with_events events None = None
 with_events events (Some told) = Some (record told { events = told.events ++ events })

@@ -1,4 +1,4 @@
--- Why a scan after the first one is cut off (this project's profile), by why it told no files: what its listings showed is refused only for native
+-- Why a scan after the first one is cut off (this project's profile), by why it reported no files: its listings are refused only for native
 -- numbers that are missing.
 use Rattle.std.specs.Prelude.{◌≡◌}
 use Rattle.prospect.specs.declared.scan_error.ScanError.{ScanError}

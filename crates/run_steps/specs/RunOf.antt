@@ -1,5 +1,5 @@
 -- A run as its account sees it (this project's profile): it reads its files once, over the rows that its registry gave, by one scan. What it
--- listed, opened and closed stands in the folder's list, and of each wire's connections those behind the run's start are its own.
+-- listed, opened and closed is in the folder's list, and of each wire's connections those after the run's start are its own.
 use Rattle.std.specs.Prelude.{ℕ, true, List, [], ◌∷◌, ◌++◌, drop, length, map, Option, Some, None}
 use Rattle.batch_worker.specs.Standing.{length_of}
 use Rattle.kept_rows.specs.Run.{Run, Scan}
@@ -11,7 +11,7 @@ use Rattle.rounds.specs.Words.{WireWords}
 use Rattle.told_scans.specs.ToldScan.{ToldScan, asking_of, scan_by}
 use Rattle.run_steps.specs.Began.{Began}
 
--- what the folder told as the run began, behind its listings, behind its scan and at its end; and what asking the listed files for
+-- what the folder reported as the run began, after its listings, after its scan and at its end; and what asking the listed files for
 -- their keys came to
 pub record FolderTold : Type 0 where
   pub earlier : FolderHistory
@@ -22,7 +22,7 @@ pub record FolderTold : Type 0 where
 
 -- ---- its scan
 
--- the scan as the folder told it
+-- the scan as the folder reported it
 abbrev pub told_scan : {D : Type 0} → Began D → FolderTold → ToldScan
 told_scan start folder = record {
   settings = start.settings;
@@ -41,12 +41,12 @@ scan_of start folder = scan_by (told_scan start folder)
 
 -- ---- its wires
 
--- the outcomes behind the first so many; each link is finished
+-- the outcomes after the first so many; each link is finished
 abbrev pub wire_behind : ℕ → Option (List Outcome) → WireTold
 wire_behind start None = record { outcomes = []; open_talk = None }
 wire_behind start (Some outcomes) = record { outcomes = drop start outcomes; open_talk = None }
 
--- wire by wire, each behind so many
+-- wire by wire, each after so many
 abbrev pub wires_behind : List ℕ → List (Option (List Outcome)) → List WireTold
 wires_behind [] told = []
 wires_behind (start ∷ starts) [] = []

@@ -1,4 +1,4 @@
--- What the objects of a run are between two of its steps (this project's profile): what folder and clock tell, lanes and workers,
+-- What the objects of a run are between two of its steps (this project's profile): what is known of folder and clock, lanes and workers,
 -- the keeper, and the two areas. While a step writes, the areas are lent to it.
 use Rattle.std.specs.Prelude.{ℕ, List, Option}
 use Rattle.keeper.specs.Keeping.{Keeping}
@@ -10,9 +10,9 @@ use Rattle.wire_base.specs.declared.numbers.Slot.{Slot}
 pub data Phase : Type 0 where
   -- files are begun and turned, and no tail was closed
   Reading : Phase
-  -- each file was told to its end
+  -- each file was reported to its end
   Finished : Phase
-  -- tails may be closed, whatever was told of their files; others may be turned on
+  -- tails may be closed, whatever was reported of their files; others may be turned on
   Leaving : Phase
   -- so it is, and the last epoch of the file of this slot is over
   OutOfEpochs : Slot → Phase
@@ -36,7 +36,7 @@ pub record RunState (T W L D : Type 0) : Type 0 where
   pub b : D
   pub phase : Phase
 
--- with the keeper where it is lent, and the areas with it
+-- with the keeper if it is lent, and the areas with it
 abbrev pub within : {T W L D : Type 0} → Option FolderHistory → Option (List ℕ) → Crew T W L → Storing D → Phase → RunState T W L D
 within shown moments crew storing phase = record {
   shown = shown;

@@ -1,5 +1,5 @@
--- A scan after the first one as a step of a run (this project's profile): only the folder is used, at the moment that the clock gave last. What stood
--- before it stands after it, with that scan as the run's last one.
+-- A scan after the first one as a step of a run (this project's profile): only the folder is used, at the moment that the clock gave last. What held
+-- before it holds after it, with that scan as the run's last one.
 use Rattle.std.specs.Prelude.{◌≡◌, ◌-◌, ◌^◌, ◌<◌, ◌++◌, [], ◌∷◌, ℕ, false, List, None, Option}
 use Rattle.outside.specs.Times.{GivesMoment}
 use Rattle.rounds.specs.Crewing.{crewing}
@@ -29,7 +29,7 @@ module _ {T W L D F K B : Type 0} (words : StepWords T W L D F K B) (context : C
     pub counted : IsCounted scan (words.seen folder).faults
     pub scans : ScansAgain context.settings.now scan (words.seen now.system.folder.now) (words.seen folder)
 
-  -- with this scan as its last one; the moment may be a new one of a clock that tells none
+  -- with this scan as its last one; the moment may be a new one of a clock whose moments are not known
   pub record StandsOneMore (start : Began D) (now : Stop T W L D F K B) (so_far : SoFar) : Type 0 where
     pub told : Option ToldScan
     pub more : List ℕ

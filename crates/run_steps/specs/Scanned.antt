@@ -1,5 +1,5 @@
 -- How a run scanned (this project's profile), in the words of the scan's own contracts: settings within their ranges, what its listings
--- told, what asking the listed files for their keys came to, and which of those with a key are followed; and that it makes no other scan.
+-- reported, what asking the listed files for their keys came to, and which with a key are followed; and that it makes no other scan.
 use Rattle.std.specs.Prelude.{◌≡◌, true, All, List, Some, flat_map, map}
 use Rattle.beat_config.specs.InRange.{AreInRange}
 use Rattle.prospect.specs.AskedFiles.{AskedFile, AsksFrom, keyed_by}

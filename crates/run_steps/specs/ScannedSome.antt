@@ -1,5 +1,5 @@
 -- How a run scanned that ended before it followed a file (this project's profile): some of its globs were listed, in their order, or all
--- of them; a listing that failed is the last. Behind these, files may have been opened that were only asked for their keys, and nothing
+-- of them; a listing that failed is the last. After these, files may have been opened that were only asked for their keys, and nothing
 -- else was done with the folder.
 use Rattle.std.specs.Prelude.{Some}
 use Rattle.beat_config.specs.InRange.{AreInRange}

@@ -25,13 +25,13 @@ use Rattle.run_steps.specs.declared.rescan_error.RescanError.{RescanError}
 use Rattle.run_steps.specs.declared.rescan_error.RescanError.TheVariants.{NoMemory, NoNative}
 use Rattle.run_steps.specs.declared.scanning.Rescan.{Rescan}
 
--- what a run knows of it, with what the folder told of it
+-- what a run knows of it, with what the folder reported of it
 abbrev pub later_scan : Rescan → Option ToldScan → LaterScan
 later_scan scan told = record { moment = scan.now.0; files = scan.listed.items; doubled = scan.doubled.items; whole = scan.whole; told = told }
 
 -- ---- what it showed
 
--- between what the folder told before it and what it tells after it
+-- between what the folder reported before it and what it reports after it
 pub record IsRescan (settings : Settings) (before : FolderHistory) (scan : Rescan) (after : FolderHistory) : Type 0 where
   pub told : ToldScan
   pub next : IsNextScan settings before (later_scan scan (Some told)) after
@@ -54,7 +54,7 @@ AreOfInputs settings listed = All (IsOfInputs settings) listed
 
 -- ---- where it was cut off
 
--- a path that is told has the length of one
+-- a path that is reported has the length of one
 abbrev pub NamesPath : RescanError → Type 0
 NamesPath NoMemory = Unit {0}
 NamesPath (NoNative path) = IsPath path

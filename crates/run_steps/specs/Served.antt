@@ -1,5 +1,5 @@
 -- What is known besides of a run that was through with beginning its files (this project's profile), by what its keeper noted and what its
--- folder told behind the scan: each listed file was begun, or skipped for its reason, and of each that was begun the moment of its change is
+-- folder reported after the scan: each listed file was begun, or skipped for its reason, and of each begun the moment of its change is
 -- noted; and of each row that is removed how its slot begins, and that it goes.
 use Rattle.std.specs.Prelude.{◌≡◌, ℕ, List, [], Contains, length}
 use Rattle.event_tree.specs.declared.input_rule.InputRule.{InputRule}
@@ -18,13 +18,13 @@ use Rattle.run_steps.specs.HiddenRows.{AreAllForgotten}
 use Rattle.run_steps.specs.RunOf.{FolderTold}
 use Rattle.run_steps.specs.SkippedFor.{IsSkippedFor}
 
--- the keeper was told how the file of this slot begins
+-- it was reported to the keeper how the file of this slot begins
 pub record HasBegin (notes : List Note) (slot : ℕ) : Type 0 where
   pub begin : Begin
   pub slot_is : begin.slot.0 ≡ slot
   pub noted : Contains notes (noted_begin begin)
 
--- what a folder told of which so many things stood there before the run, as the trace of the run
+-- what a folder reported of which this many things were there before the run, as the trace of the run
 abbrev pub folder_trace : ℕ → FolderHistory → Trace
 folder_trace began told = record { files = told.files; events = told.events; began = began; open_tails = []; moments = []; wires = [] }
 

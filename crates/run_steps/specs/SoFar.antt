@@ -1,4 +1,4 @@
--- What a run has done so far (this project's profile), as its account will tell it: the files that it began, what was told of each,
+-- What a run has done so far (this project's profile), as its account will report it: the files that it began, what was reported of each,
 -- and where that went.
 use Rattle.std.specs.Prelude.{ℕ, ◌==◌, List, [], ◌∷◌, ◌++◌, map, Option, if◌then◌else◌}
 use Rattle.std.specs.List.{flat_map}
@@ -12,7 +12,7 @@ use Rattle.wire_base.specs.declared.note.Note.TheVariants.{Announce}
 use Rattle.wire_base.specs.declared.parcel.Parcel.{Parcel}
 use Rattle.run_steps.specs.LaterScans.{LaterScan}
 
--- a file whose tail was closed, with what that tail told then
+-- a file whose tail was closed, with what that tail reported then
 pub record Left : Type 0 where
   pub turned : Turned
   pub told : Option TailHistory
@@ -30,14 +30,14 @@ pub record SoFar : Type 0 where
   pub scans : List LaterScan
   -- the files of which the keeper was told, by their slots, each as it was opened last
   pub opened : List Opened
-  -- and the hidden rows of which it was told, by their slots behind those
+  -- and the hidden rows that were noted, by their slots after those
   pub hidden : List Hidden
   -- those that harvesters turn, lane by lane, and those whose tails were closed
   pub lanes : List (List Turned)
   pub left : List Left
   -- the openings that came before those, in order
   pub earlier : List Earlier
-  -- what was told of them, and what a peer acknowledged of it
+  -- what was reported of them, and what a peer acknowledged of it
   pub told : Told
   -- the notes that the run told the keeper itself, but for epochs of files that were opened again, and those that the keeper collected
   pub begun : List Note
@@ -104,14 +104,14 @@ files_within files = flat_map (λ turned. turned) files.lanes ++ map (λ one. on
 abbrev pub files_in : SoFar → List Turned
 files_in so_far = files_within (files_of so_far)
 
--- all of which something may have been told
+-- all of which something may have been reported
 abbrev pub told_before : List Earlier → List Turned
 told_before earlier = map (λ one. one.left.turned) earlier
 
 abbrev pub all_told : SoFar → List Turned
 all_told so_far = told_before so_far.earlier ++ files_in so_far
 
--- what was told of them, and where each event of it is
+-- what was reported of them, and where each event of it is
 pub record BooksSoFar : Type 0 where
   pub files : List Turned
   pub told : Told

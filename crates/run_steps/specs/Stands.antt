@@ -1,5 +1,5 @@
--- What a run keeps from step to step (this project's profile): what it has told of its files, where each event of it is, what the
--- keeper noted of it, and what the areas may hold. Each step leads from a state for which this stands to another one.
+-- What a run keeps from step to step (this project's profile): what it has reported of its files, where each event of it is, what the
+-- keeper noted of it, and what the areas may hold. Each step leads from a state for which this holds to another one.
 use Rattle.std.specs.Prelude.{◌≡◌, ◌≢◌, ℕ, suc, ◌^◌, ◌-◌, ◌<◌, min, false, drop, List, [], ◌++◌, Contains, Option, IfSome, IsSome, Some, count_by, length, map}
 use Rattle.std.specs.List.{AllByRecursion, flat_map}
 use Rattle.accounts.specs.Ground.{HasGround}
@@ -49,11 +49,11 @@ abbrev pub AreTurnedIn : {T : Type 0} → TailWords T → Watch → List Opened 
 AreTurnedIn tails watch opened moments turned lane =
     Pairs (IsTurnedSo tails.numbers tails.told watch opened moments) turned lane.harvesters
 
--- its tail tells
+-- its tail reports
 abbrev pub TellIn : {T : Type 0} → TailWords T → Laning T → Type 0
 TellIn tails lane = AllByRecursion (λ harvester. IsSome (tails.told harvester.tail)) lane.harvesters
 
--- of a file whose tail was closed: one of these was told so
+-- of a file whose tail was closed: one of these was reported so
 pub record IsLeftSo (watch : Watch) (opened : List Opened) (moments : List ℕ) (one : Left) : Type 0 where
   pub file : Opened
   pub among : Contains opened file
@@ -78,7 +78,7 @@ ReadsYet Finished = ⊥
 ReadsYet Leaving = ⊥
 ReadsYet (OutOfEpochs slot) = ⊥
 
--- the tail was closed, and if it counted no fault then it was read behind each look at its length
+-- the tail was closed, and if it counted no fault then it was read after each look at its length
 abbrev pub IsLeftRead : FolderHistory → Left → Type 0
 IsLeftRead now one = IfSome one.told (λ tail. closing_in tail.opening (drop (suc tail.opening) now.events) ≡ Some (record { looks = tail.looks; faults = 0 }) →
     ReadsBehind false one.turned.history.begin.base tail.looks)
@@ -88,7 +88,7 @@ pub record AreRead {T : Type 0} (tails : TailWords T) (shown : Option FolderHist
   pub in_lanes : AllByRecursion (λ lane. AllByRecursion (ReadsWhereNoFault tails.told tails.faults) lane.harvesters) lanes
   pub in_left : IfSome shown (λ now. AllByRecursion (IsLeftRead now) left)
 
--- the run may tell a report: it reads on, was stopped as it did, or read each file to its end
+-- the run may give a report: it reads on, was stopped as it did, or read each file to its end
 abbrev pub MayTell : Phase → Type 0
 MayTell Reading = Unit {0}
 MayTell Finished = Unit {0}
@@ -101,9 +101,9 @@ pub record AreAnswered {T : Type 0} (lanes : List (Laning T)) (left : List Left)
   pub in_lanes : AllByRecursion (λ lane. AllByRecursion HasAnswered lane.harvesters) lanes
   pub in_left : AllByRecursion (λ one. IsAnswered one.turned.history) left
 
--- ---- what was told of them
+-- ---- what was reported of them
 
--- what lanes gave is what was told of the files, each once
+-- what lanes gave is what was reported of the files, each once
 pub record HaveGiven (told : Told) (files : List Turned) : Type 0 where
   pub parcels : AsOften told.issued (flat_map parcels_told files)
   pub notes_are : AsOften told.noted (flat_map notes_told files)
@@ -114,7 +114,7 @@ pub record AreCounted (keeper : Keeping) : Type 0 where
   pub dropped : keeper.dropped ≡ min (count_by is_dropped (notes keeper.pass.got)) (2 ^ 64 - 1)
   pub collected : keeper.collected ≡ min (length keeper.pass.got) (2 ^ 64 - 1)
 
--- the keeper's notes are, as often, those that the run told it and those that it collected, and orderly, over the rows that the registry gave
+-- the keeper's notes are, as often, those that the run gave it and those that it collected, and orderly, over the rows that the registry gave
 pub record AreNoted (opening : List Row) (keeper : Keeping) (begun collected : List Note) : Type 0 where
   pub opening_is : keeper.tracked.opening ≡ opening
   pub mixed : AreMixed begun collected keeper.tracked.notes
@@ -142,7 +142,7 @@ pub record Files {T D : Type 0} (tails : TailWords T) (start : Began D) (now : F
   pub over : HaveOneOver now.phase (files_within so_far)
   pub read : ReadsYet now.phase → IsSome start.shown → AreRead tails now.shown now.lanes so_far.left
   pub answered : MayTell now.phase → IsSome start.shown → AreAnswered now.lanes so_far.left
-  -- where the folder tells, so do the tails
+  -- if the folder is known, so are the tails
   pub tell : IsSome start.shown → AllByRecursion (TellIn tails) now.lanes
   pub left_tell : IsSome start.shown → AllByRecursion (λ (one : Left). IsSome one.told) so_far.left
   pub scans : AreLaterScans start so_far.moments so_far.scans
@@ -155,7 +155,7 @@ pub record BooksNow (T W L : Type 0) : Type 0 where
   pub carriers : List (Carrier W L)
   pub got : List Note
 
--- notes are backed: each one that was collected, is in the box, or is held or owed has its ground in what was told of the files, or in what
+-- notes are backed: each one that was collected, is in the box, or is held or owed has its ground in what was reported of files, or in what
 -- was acknowledged
 abbrev pub AreAllBacked : {T W L : Type 0} → BooksNow T W L → BooksSoFar → Type 0
 AreAllBacked now so_far =
@@ -192,7 +192,7 @@ pub record Stands {T W L D : Type 0} (words : Words T W L D) (start : Began D) (
   pub notes : Notes start state.keeper (notes_of so_far)
   pub areas : BeganAtRest words.disks start → HaveHeldFronts words.disks start.opening state.keeper.tracked.notes start.a start.b state.a state.b
 
--- it stands, whatever was done
+-- it holds, whatever was done
 pub record Further {T W L D : Type 0} (words : Words T W L D) (start : Began D) (state : RunState T W L D) : Type 0 where
   pub so_far : SoFar
   pub stands : Stands words start state so_far

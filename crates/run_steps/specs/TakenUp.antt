@@ -1,4 +1,4 @@
--- What a run that tells a report has taken up (this project's profile): its first scan is whole, and each entry that a glob of an input
+-- What a run that gives a report has taken up (this project's profile): its first scan is whole, and each entry that a glob of an input
 -- covers was passed over for its named reason, or a slot of the account has its key, and a tail that follows its file.
 use Rattle.std.specs.Prelude.{◌≡◌, ◌⊎◌, ℕ, List, Contains, slice_get, Some}
 use Rattle.event_tree.specs.declared.input_rule.InputRule.{InputRule}

@@ -1,4 +1,4 @@
--- What a keeper is told of a run's files (this project's profile): how each begins, and when each was changed.
+-- What is reported to a keeper of a run's files (this project's profile): how each begins, and when each was changed.
 use Rattle.std.specs.Prelude.{◌≡◌, ◌⊎◌, ℕ, suc, ◌<◌, max, min, List, [], ◌∷◌, ◌++◌, All, Contains, IsSome, None, Some, take}
 use Rattle.std.specs.Option.{option_map_or}
 use Rattle.ack_tracker.specs.Tracked.{Tracked}
@@ -15,7 +15,7 @@ use Rattle.wire_base.specs.declared.numbers.TheConstants.{MAX_MOMENT}
 use Rattle.wire_base.specs.declared.row.Row.{Row}
 use Rattle.run_steps.specs.BeginFor.{row_of}
 
--- it was told these notes, and nothing else of it changed
+-- these notes were given to it, and nothing else of it changed
 pub record TellsNotes (notes : List Note) (old new : Keeping) : Type 0 where
   pub told : new.tracked.notes ≡ old.tracked.notes ++ notes
   pub opening_stays : new.tracked.opening ≡ old.tracked.opening
@@ -51,7 +51,7 @@ pub record IsNotFollowed (slot : ℕ) (tracked : Tracked) : Type 0 where
 abbrev pub seen_note : Slot → Moment → Note
 seen_note slot changed = Seen slot changed
 
--- of a file that is followed, a moment above 0 is told
+-- of a file that is followed, a moment above 0 is noted
 pub record TellsSeen (slot : Slot) (changed : Moment) (old new : Keeping) : Type 0 where
   pub later : 0 < changed.0
   pub followed : IsFollowed slot.0 old.tracked

@@ -1,4 +1,4 @@
--- By what a run can be told (this project's profile): as it ends, its folder, its clock and each of its wires tell what was done.
+-- By what a run can be known (this project's profile): as it ends, it is known of its folder, clock and wires what was done.
 use Rattle.std.specs.Prelude.{◌≡◌, List, Some, IsSome}
 use Rattle.std.specs.List.{AllByRecursion}
 use Rattle.rounds.specs.Words.{WireWords}

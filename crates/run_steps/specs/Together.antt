@@ -1,6 +1,6 @@
 -- What both areas of a run give together (this project's profile): in one order of the writes, from one state of both to the next one area
 -- alone is written, or only read, and the other stays as it is; so a crash leaves of the one what it held meanwhile, and of the other what it
--- holds. No disk tells in which order writes of different areas were made: of each commit its own contract says it.
+-- holds. No disk shows in which order writes of different areas were made: of each commit its own contract says it.
 use Rattle.std.specs.Prelude.{◌≡◌, ◌⊎◌, ℕ, List, [], ◌∷◌}
 use Rattle.outside.specs.DiskImages.{LeavesOnly}
 use Rattle.registry_store.specs.Sides.{of_area, other_area}
@@ -15,7 +15,7 @@ pub record Areas (D : Type 0) : Type 0 where
 abbrev pub area_in : {D : Type 0} → Areas D → Which → D
 area_in areas area = of_area area areas.a areas.b
 
--- one area was written or only read, and so both are behind it
+-- one area was written or only read, and the same holds of both after it
 pub record AreaWrite (D : Type 0) : Type 0 where
   pub area : Which
   pub after : Areas D
@@ -28,14 +28,14 @@ module _ {D : Type 0} (disks : DiskWords D) where
     pub written : disks.images_since (area_in write.after write.area) (disks.moment (area_in before write.area)) (of_area write.area first second)
     pub other : disks.images (area_in before (other_area write.area)) (of_area (other_area write.area) first second)
 
-  -- at some moment of these writes, made one behind the other, or behind the last one
+  -- at some moment of these writes, made one after another, or after the last one
   abbrev pub MayLeave : Areas D → List (AreaWrite D) → List ℕ → List ℕ → Type 0
   MayLeave before [] first second = disks.images before.a first × disks.images before.b second
   MayLeave before (write ∷ writes) first second = MayLeaveBy before write first second ⊎ MayLeave write.after writes first second
 
   -- ---- what that gives
 
-  -- one area alone is written, and at every moment each image of it gives such rows with each image of the other one
+  -- only one area is written, and at every moment each image of it gives such rows with each image of the other one
   pub record WritesOne (Gives : List ℕ → List ℕ → Type 0) (before : Areas D) (write : AreaWrite D) : Type 0 where
     pub other_same : area_in write.after (other_area write.area) ≡ area_in before (other_area write.area)
     pub leaves : LeavesOnly disks.moment disks.images_since (area_in before write.area) (area_in write.after write.area)
@@ -47,7 +47,7 @@ module _ {D : Type 0} (disks : DiskWords D) where
   Lead Gives before [] after = after ≡ before
   Lead Gives before (write ∷ writes) after = WritesOne Gives before write × Lead Gives write.after writes after
 
-  -- some do, and both give such rows behind them
+  -- some do, and both give such rows after them
   pub record GiveThroughout (Gives : List ℕ → List ℕ → Type 0) (before after : Areas D) : Type 0 where
     pub writes : List (AreaWrite D)
     pub lead : Lead Gives before writes after

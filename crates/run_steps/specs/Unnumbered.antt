@@ -1,5 +1,5 @@
--- A file that told no native numbers as it was opened, while its input knows its files by these (Filebeat reference, file identity; this
--- project's profile): by what the folder told since then.
+-- A file that had no native numbers as it was opened, while its input recognizes files by these (Filebeat reference, file identity; this
+-- project's profile): by what the folder reported since then.
 use Rattle.std.specs.Prelude.{◌≡◌, ℕ, ◌≤◌, List, length, slice_get, Option, None, Some, IfSome}
 use Rattle.event_tree.specs.declared.input_rule.IdentityRule.TheVariants.{Native}
 use Rattle.event_tree.specs.declared.input_rule.InputRule.{InputRule}
@@ -22,7 +22,7 @@ pub record WasOpenedUnnumbered (path : List ℕ) (before after : FolderHistory) 
   pub file_is : slice_get after.files number ≡ Some file
   pub none : file.numbers ≡ None
 
--- so it is of the listed file of this slot, where the folder tells
+-- the same of the listed file of this slot, if the folder is known
 pub record IsUnnumbered (settings : Settings) (listed : List Listed) (slot : ℕ) (before after : Option FolderHistory) : Type 0 where
   pub one : Listed
   pub listed_there : slice_get listed slot ≡ Some one

@@ -9,7 +9,7 @@ use Rattle.wire_base.specs.declared.row.Row.{Row}
 use Rattle.run_steps.specs.Together.{Areas, area_in}
 
 module _ {D : Type 0} (disks : DiskWords D) (areas : Areas D) where
-  -- what both areas tell makes this choice
+  -- what is known of both areas makes this choice
   pub record Choose (choice : Choice) : Type 0 where
     pub first : List ℕ
     pub second : List ℕ
@@ -17,7 +17,7 @@ module _ {D : Type 0} (disks : DiskWords D) (areas : Areas D) where
     pub b_told : disks.contents areas.b ≡ Some second
     pub chosen : IsChoice first second choice
 
-  -- the area told these bytes, and the other one was chosen, of at least this generation
+  -- the area had these bytes, and the other one was chosen, of at least this generation
   pub record IsOfUnusedArea (area : Which) (bytes : List ℕ) (generation : ℕ) : Type 0 where
     pub told : disks.contents (area_in areas area) ≡ Some bytes
     pub used : ℕ

@@ -1,4 +1,4 @@
--- A wire goes on (this project's profile): what it told stays in front of what it tells.
+-- A wire goes on (this project's profile): what it reported stays the front of what it reports.
 use Rattle.std.specs.Prelude.{◌≡◌, List, ◌++◌, Option, Some, IfSome}
 use Rattle.outside.specs.Wires.{Outcome}
 

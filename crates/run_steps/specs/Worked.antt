@@ -1,4 +1,4 @@
--- What a run has done once its rounds are made (this project's profile): where the beginning of files was ended, none is.
+-- What a run has done once its rounds are made (this project's profile): if the beginning of files was ended, none is.
 use Rattle.std.specs.Prelude.{◌≡◌, ◌≢◌, ◌⊎◌, ◌≤◌, ◌<◌, ℕ, true, false, List, [], length, Result, Ok, Err}
 use Rattle.std.specs.Borrow.{MutBor}
 use Rattle.keeper.specs.Keeping.{Keeping}
@@ -41,7 +41,7 @@ abbrev pub IsFollowedBy : {T W L D : Type 0} → TailWords T → DiskWords D →
 IsFollowedBy tails disks attempts since (Ok files) met = met ≢ Stopped → IsEndedBy tails disks attempts files.faulty since met
 IsFollowedBy tails disks attempts since (Err error) met = met ≡ met_of error
 
--- what counts tell of the objects of a run, before it works and behind it
+-- what is known of the counts of the objects of a run, before it works and after it
 pub record Tolls : Type 0 where
   pub a_faults : ℕ
   pub b_faults : ℕ
@@ -60,7 +60,7 @@ abbrev pub IsBegunWith : Result BegunFiles BeginError → Met → Type 0
 IsBegunWith (Ok files) met = (files.faulty ≡ true) × (met ≡ FolderFault)
 IsBegunWith (Err error) met = met ≡ met_of error
 
--- why the run with this crew met this behind its files' beginning
+-- why the run with this crew hit this after its files' beginning
 abbrev pub IsWorkedBy : {T W L : Type 0} → Crew T W L → Tolls → Tolls → Met → Type 0
 IsWorkedBy crew before after Done = Unit {0}
 IsWorkedBy crew before after Stopped = Rose before.rings after.rings

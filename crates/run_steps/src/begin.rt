@@ -50,7 +50,7 @@ pub fn pass_over(
 }
 
 /// Opens the file, asks it for its key and follows it in the lane of its slot; or skips it; or it failed. `Err` is `NoNative`
-/// where the file wants numbers and told none, and `NoMemory`. A file that was opened and is not followed is closed again.
+/// if the file needs numbers and none were reported, and `NoMemory`. A file opened and not followed is closed again.
 pub fn begin_one<F: Folder, L: Link, W: Wire<Link = L>>(
     context: Context<'_, '_>,
     opening: Opening<'_>,
@@ -71,7 +71,7 @@ pub fn begin_one<F: Folder, L: Link, W: Wire<Link = L>>(
     }
 }
 
-/// Asks an open file for its key, and follows it where that is the one with which it was listed, or closes it.
+/// Asks an open file for its key, and follows it if that is the one with which it was listed, or closes it.
 fn follow_listed<F: Folder, L: Link, W: Wire<Link = L>>(
     context: Context<'_, '_>,
     opening: Opening<'_>,
@@ -158,8 +158,8 @@ fn follow_one<F: Folder, L: Link, W: Wire<Link = L>>(
     }
 }
 
-/// A harvester over the open file. `Err` means out of memory, and gives the tail back; a file whose key the listing did
-/// not tell, and a pattern that is too large when it is compiled, count as that.
+/// A harvester over the open file. `Err` means out of memory, and gives the tail back; a file whose listing gave no
+/// key, and a pattern that is too large when it is compiled, count as that.
 pub(crate) fn harvest<T: Tail>(
     context: Context<'_, '_>,
     opening: Opening<'_>,
@@ -183,7 +183,7 @@ pub(crate) fn harvest<T: Tail>(
     Harvester::open(context.alloc, rule, processors, begin, tail, opening.now)
 }
 
-/// Admits the harvester to the lane of its slot once the keeper was told of it, or closes its file.
+/// Admits the harvester to the lane of its slot once the keeper has noted its begin, or closes its file.
 fn take_in<F: Folder, L: Link, W: Wire<Link = L>>(
     alloc: Global,
     opening: Opening<'_>,

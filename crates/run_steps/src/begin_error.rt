@@ -12,7 +12,7 @@ pub enum BeginError {
     /// A file failed as it was opened or asked for its key, and then another had no native numbers.
     #[error("the folder failed")]
     FolderFault,
-    /// The system told no inode and device of this file as it was opened, and its input knows files by them.
+    /// The system reported no inode and device of this file as it was opened, and its input recognizes files by them.
     #[error("file {0:?} has no native numbers")]
     NoNative(Slot),
 }

@@ -23,7 +23,7 @@ use restart_join::Start;
 use rounds::Crew;
 use wire_base::{Moment, Slot};
 
-/// What a scan told, where each file starts, and the moment of the scan.
+/// What a scan reported, where each file starts, and the moment of the scan.
 #[derive(Debug, Drop)]
 pub struct Scanned {
     /// The first file of each key; its slot is its place in the list.
@@ -47,8 +47,8 @@ pub struct BegunFiles {
     pub faulty: bool,
 }
 
-/// Opens each listed file, tells the keeper how each begins, and then when each was changed. `Err` is `NoNative` where a file told
-/// no numbers, `FolderFault` where one failed before that, and `NoMemory`; what was begun by then stays begun.
+/// Opens each listed file, reports how each begins, and then when each was changed. `Err` is `NoNative` if a file had
+/// no numbers, `FolderFault` if one failed before that, and `NoMemory`; what was begun by then stays begun.
 pub fn begin_all<F: Folder, L: Link, W: Wire<Link = L>>(
     context: Context<'_, '_>,
     scanned: &Scanned,

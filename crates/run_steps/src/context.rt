@@ -13,8 +13,8 @@ pub struct Context<'a, 'b> {
     pub once: bool,
 }
 
-/// What a run reads, sends by and asks, beside its areas. It is written out where the references are, for of a call that made it no
-/// caller could tell what they come to.
+/// What a run reads, sends by and asks, besides its areas. It is written out where the references are: of a call that made it no
+/// caller could say what they come to.
 #[derive(Drop)]
 pub struct Surroundings<'a, 'b, 'c, 'd, F, W, K, B> {
     pub folder: &'a mut F,
@@ -23,7 +23,7 @@ pub struct Surroundings<'a, 'b, 'c, 'd, F, W, K, B> {
     pub bell: &'d mut B,
 }
 
-/// What rounds read and ask of the system beside a run's areas: where tails are closed, the time, and whether to stop.
+/// What rounds read and ask of the system besides a run's areas: where tails are closed, the time, and whether to stop.
 #[derive(Drop)]
 pub struct System<'a, 'b, 'c, F, K, B> {
     pub folder: &'a mut F,

@@ -9,7 +9,7 @@ use rounds::{Carrier, Crew, Round};
 /// How long the clock pauses after a round in which nothing moved, in milliseconds.
 pub const PAUSE_MS: u64 = 100;
 
-/// Lets the clock pause where the round ended nothing and moved nothing, and no file is closed behind it.
+/// Lets the clock pause if the round ended nothing and moved nothing, and no file is closed after it.
 pub fn pause_where_still<K: Clock>(met: Option<Met>, round: Round, clock: &mut K)
     ensures moments_kept { K.moments clock.new ≡ K.moments clock.old }
     ensures not_asked { K.questions clock.new ≡ K.questions clock.old }
@@ -20,7 +20,7 @@ pub fn pause_where_still<K: Clock>(met: Option<Met>, round: Round, clock: &mut K
     }
 }
 
-/// What ends the run in this round. Where the round met several causes it is the first in this order: no memory, a disk's fault,
+/// What ends the run in this round. If the round hit several causes it is the first in this order: no memory, a disk's fault,
 /// a last epoch, a worker that failed `attempts` times in a row, and that all is done, if files are read `once`. A file's read fault
 /// ends no run by itself.
 pub fn met_in<T: Tail, L: Link, W: Wire<Link = L>>(
@@ -54,7 +54,7 @@ pub fn met_in<T: Tail, L: Link, W: Wire<Link = L>>(
     None
 }
 
-/// What a run has met that ends by this: a file's fault, if some file met one, unless memory or a disk failed.
+/// The cause that ends a run by this: a file's fault, if some file hit one, unless memory or a disk failed.
 pub fn met_behind(faulty: bool, met: Met) -> Met
     ensures { result ≡ met_behind faulty met }
 {

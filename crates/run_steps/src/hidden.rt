@@ -47,7 +47,7 @@ pub fn tell_hidden(
     tell_rows(alloc, inputs, listed, &keys, keeper)
 }
 
-/// Tells of them once all files were begun.
+/// Notes them once all files were begun.
 pub fn hide_begun(
     context: Context<'_, '_>,
     scanned: &Scanned,
@@ -72,7 +72,7 @@ fn are_in_order(rows: &Rows)
     rows.get(&[]);
 }
 
-/// Tells of the rows that go, one behind the other.
+/// Notes the rows that go, one after another.
 fn tell_rows(
     alloc: Global,
     inputs: &[InputRule],
@@ -99,7 +99,7 @@ fn tell_rows(
     Ok(())
 }
 
-/// Tells of the row at the place by this slot, if it goes. The next slot.
+/// Notes the row at the place by this slot, if it goes. The next slot.
 fn tell_or_leave(
     alloc: Global,
     inputs: &[InputRule],
@@ -140,7 +140,7 @@ fn going_row(
     Ok(None)
 }
 
-/// Tells how the slot begins, as the row stands, and that the row goes.
+/// Notes how the slot begins, with the row as it is, and that the row goes.
 fn tell_row(alloc: Global, slot: Slot, row: Row, keeper: &mut Keeper) -> Result<(), NoMemory>
     requires in_range { IsRow row }
     requires few { HasRoomFor keeper.old.store.rows keeper.old.tracked

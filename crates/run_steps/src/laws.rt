@@ -13,8 +13,8 @@ pub fn disk_images_are_counted<D: Disk>()
         D.images disk image → D.images_since disk since image }
 {}
 
-/// A scan after the first one is a step of each run that scans its folder again, at the moment that its clock gave last: what stood
-/// before it stands after it, with one more scan. A law; it computes nothing.
+/// A scan after the first one is a step of each run that scans its folder again, at the moment that its clock gave last: what was
+/// before it is after it, with one more scan. A law; it computes nothing.
 pub fn scans_again_are_steps<F: Folder, L: Link, W: Wire<Link = L>, D: Disk, K: Clock, B: Bell>()
     ensures { ScansAreSteps
         (step_words F.Folder F.Tail.Tail L.Link W.Wire D.Disk K.Clock B.Bell) }

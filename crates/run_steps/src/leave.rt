@@ -40,7 +40,7 @@ fn close_lane<F: Folder>(folder: &mut F, lane: &mut Lane<F::Tail>)
     }
 }
 
-/// Closes the tail of this seat, and lets its harvester go; the lane's last one takes the seat. It takes no memory.
+/// Closes the tail of this seat, and releases its harvester; the lane's last one takes the seat. It takes no memory.
 pub fn close_tail<F: Folder>(folder: &mut F, lane: &mut Lane<F::Tail>, seat: usize)
     requires seat { seat < length (laning lane.old).harvesters }
     ensures closes { ClosesOne (tails_of F.Tail.Tail)
@@ -53,7 +53,7 @@ pub fn close_tail<F: Folder>(folder: &mut F, lane: &mut Lane<F::Tail>, seat: usi
     release(folder, harvester);
 }
 
-/// Behind a round: of each lane, closes the first file of which a read failed. Whether there was one. It takes no memory.
+/// After a round: of each lane, closes the first file of which a read failed. Whether there was one. It takes no memory.
 pub fn close_failed<F: Folder>(folder: &mut F, lanes: &mut [Lane<F::Tail>]) -> bool
     ensures { ClosesFailed (tails_of F.Tail.Tail) result
         (readers F.Folder folder.old (lanings lanes.old))
@@ -81,7 +81,7 @@ fn close_failed_of<F: Folder>(folder: &mut F, lane: &mut Lane<F::Tail>) -> bool
     }
 }
 
-/// Closes the tail of a harvester of this slot, if the lane has one, and lets the harvester go. It takes no memory.
+/// Closes the tail of a harvester of this slot, if the lane has one, and releases the harvester. It takes no memory.
 pub fn close_slot<F: Folder>(folder: &mut F, lane: &mut Lane<F::Tail>, slot: Slot)
     ensures closes { ClosesSome (tails_of F.Tail.Tail)
         (readers F.Folder folder.old (laning lane.old ∷ []))
@@ -93,7 +93,7 @@ pub fn close_slot<F: Folder>(folder: &mut F, lane: &mut Lane<F::Tail>, slot: Slo
     }
 }
 
-/// Lets a harvester go, and gives the folder its tail back. It takes no memory. The harvester counts its epochs in 32 bits.
+/// Releases a harvester, and gives the folder its tail back. Takes no memory. The harvester counts its epochs in 32 bits.
 pub(crate) fn release<F: Folder>(folder: &mut F, harvester: Harvester<F::Tail>)
     ensures told { F.told folder.new ≡ with_events
         (closing_of (F.Tail.told harvester.tail) (F.Tail.faults harvester.tail))
@@ -108,7 +108,7 @@ pub(crate) fn release<F: Folder>(folder: &mut F, harvester: Harvester<F::Tail>)
     folder.close(harvester.finish());
 }
 
-/// Lets lanes and workers go, and puts the workers' wires before the others again. It takes no memory.
+/// Releases lanes and workers, and puts the workers' wires before the others again. It takes no memory.
 pub fn end_crew<T: Tail, L: Link, W: Wire<Link = L>>(crew: Crew<T, W, L>, wires: &mut Vec<W>)
     requires lanes { All HasLanePasses (lanings crew.lanes.items) }
     requires no_harvesters { All HasNoHarvesters (lanings crew.lanes.items) }
@@ -123,7 +123,7 @@ pub fn end_crew<T: Tail, L: Link, W: Wire<Link = L>>(crew: Crew<T, W, L>, wires:
     end_carriers(carriers, wires);
 }
 
-/// Lets lanes go that have no harvesters. What they hold is given up.
+/// Releases lanes that have no harvesters. What they hold is given up.
 pub fn end_lanes<T: Tail>(mut lanes: Vec<Lane<T>>)
     requires passes { All HasLanePasses (lanings lanes.items) }
     requires no_harvesters { All HasNoHarvesters (lanings lanes.items) }

@@ -1,7 +1,7 @@
-//! The steps of a run over rounds: its registry and its files are opened, files are turned until nothing more is found, all is let
-//! go, and what was settled is stored. Rows of removed files go by notes, which the keeper is told once all files are begun.
+//! The steps of a run over rounds: its registry and its files are opened, files are turned until nothing more is found, all is
+//! released, and what was settled is stored. Rows of removed files go by notes, given once all files are begun.
 //!
-//! Each step says what it changed. Rounds, the last steps and what lets go keep one relation: what was told of each file, where
+//! Each step says what it changed. Rounds, last steps and releases keep one relation: what each file reported, where
 //! each event of it is, what the keeper noted, and what the areas may hold at any moment. So do a scan after the first one, and
 //! what a run does with a file by what that scan shows: it is stirred, asked to end or renamed. No run makes them yet.
 #![tactic(auto)]

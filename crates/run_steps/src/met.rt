@@ -15,7 +15,7 @@ pub enum Met {
     Unreachable(u32),
     /// The last epoch of this file is over.
     Epochs(Slot),
-    /// The system told no inode and device of this file as it was opened, and its input knows files by them.
+    /// The system reported no inode and device of this file as it was opened, and its input recognizes files by them.
     NoNative(Slot),
 }
 

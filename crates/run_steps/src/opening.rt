@@ -20,7 +20,7 @@ pub struct Opening<'a> {
     pub now: Moment,
 }
 
-/// How the file begins. `Err` means out of memory, or a key that the listing did not tell.
+/// How the file begins. `Err` means out of memory, or a key that the listing did not give.
 pub(crate) fn begin_of(alloc: Global, opening: Opening<'_>) -> Result<Begin, NoMemory>
     requires start { opening.start.base ≤ opening.listed.now.size }
     ensures begin { IfOk result

@@ -28,7 +28,7 @@ use std::thread::Threads;
 
 /// One round, at the moment that the clock gives. The end of a file may be found if files are read once, or if it is to end. What ends
 /// the run, if something does.
-/// The clock pauses where the round ended nothing and moved nothing, and no read failed.
+/// The clock pauses if the round ended nothing and moved nothing, and no read failed.
 pub fn make_round<
     F: Folder,
     L: Link + Send,
@@ -48,7 +48,7 @@ where
     F::Tail: Send,
     requires ready { IsReadyIn (tails_of F.Tail.Tail) context (crewing crew.old storing.old) }
     requires few { length crew.old.carriers.items ≤ 2 ^ 32 - 1 }
-    // Also in a run that has closed a file that met a fault; it has met one, too, if a read failed
+    // Also in a run that has closed a file that hit a fault; it has hit one, too, if a read failed
     // in this round.
     ensures goes { (faulty : Bool) →
         Goes (step_words F.Folder F.Tail.Tail L.Link W.Wire D.Disk K.Clock B.Bell) context.entry
@@ -88,7 +88,7 @@ where
 }
 
 /// One round, and the closing of files of which a read failed in it: each lane closes the first of its own, and the run reads on
-/// without it. Whether some file met a fault so far; `Err` is what ends the run.
+/// without it. Whether some file hit a fault so far; `Err` is what ends the run.
 pub fn read_on<
     F: Folder,
     L: Link + Send,
@@ -125,7 +125,7 @@ where
     ensures met { IfErr result (λ met. IsEndedBy (tails_of F.Tail.Tail) (disks_of D.Disk)
         context.entry.settings.now.output.attempts faulty
         (since_of F.Folder storing.old system.old (crewing crew.new storing.new) system.new) met) }
-    // Where no file met a fault, some file of lanes that held nothing was asked for its length.
+    // If no file hit a fault, some file of lanes that held nothing was asked for its length.
     ensures looks { IfOk result (λ now. now ≡ false → LooksInRound (tails_of F.Tail.Tail)
         (lanings crew.old.lanes.items) (lanings crew.new.lanes.items)) }
     // A report is told only where no file met a fault before.
@@ -145,7 +145,7 @@ where
     goes_on(faulty, failed, met)
 }
 
-/// Whether some file met a fault, in an earlier round or this one, or what ends the run.
+/// Whether some file hit a fault, in an earlier round or this one, or what ends the run.
 fn goes_on(faulty: bool, failed: bool, met: Option<Met>) -> Result<bool, Met>
     ensures { result ≡ read_by (faulty || failed) met }
 {
@@ -156,7 +156,7 @@ fn goes_on(faulty: bool, failed: bool, met: Option<Met>) -> Result<bool, Met>
 }
 
 /// Stores what was noted as the files began, before a byte of them is sent; then makes the rounds. If it cannot be stored, there is
-/// no round: an event is sent only if its row could be kept. `faulty` if some file met a fault before. Takes as long as the files,
+/// no round: an event is sent only if its row could be kept. `faulty` if some file hit a fault before. Takes as long as the files,
 /// the peers and the disk do.
 pub fn store_and_follow<
     F: Folder,

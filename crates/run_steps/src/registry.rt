@@ -16,7 +16,7 @@ use outside::Disk;
 use registry_store::{Store, one_choice};
 use std::alloc::Global;
 
-/// Opens the registry by the area that is chosen; where it is empty, area A is started without a row.
+/// Opens the registry by the area that is chosen; if it is empty, area A is started without a row.
 ///
 /// As it begins nothing is to be pending on the disks: they are as a restart finds them.
 pub fn open_registry<D: Disk>(alloc: Global, a: &mut D, b: &mut D) -> Result<Store, RegistryError>
@@ -25,7 +25,7 @@ pub fn open_registry<D: Disk>(alloc: Global, a: &mut D, b: &mut D) -> Result<Sto
     ensures gives { IfOk result (λ store.
         GiveTheRows (disks_of D.Disk) a.old b.old store.rows) }
 
-    // And the areas are as a commit wants them.
+    // And the areas are as a commit needs them.
     ensures settled { AreAtRest D.contents D.images a.old b.old →
         IfOk result (λ store. AreSettled D.contents D.images a.new b.new (chosen_by store)) }
 

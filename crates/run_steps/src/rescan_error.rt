@@ -7,7 +7,7 @@ use wire_base::{NoMemory, Text};
 pub enum RescanError {
     #[error("out of memory")]
     NoMemory,
-    /// An input knows its files by native numbers, and the listings showed this path without them.
+    /// An input recognizes files by native numbers, and the listings showed this path without them.
     #[error("a file has no inode and device")]
     NoNative { path: Text },
 }

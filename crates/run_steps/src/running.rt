@@ -38,7 +38,7 @@ use std::sync::Wait;
 use std::thread::Threads;
 use wire_base::NoMemory;
 
-/// Follows the listed files by a crew, and lets all go. `Err` means out of memory for the crew; then nothing was done, and all
+/// Follows the listed files by a crew, and releases all. `Err` means out of memory for the crew: nothing was done, and all
 /// wires are back in their order. Takes as long as the files, the peers and the disk do.
 pub fn run_over<
     X: Threads + Wait + Sync,
@@ -80,7 +80,7 @@ where
         HasEnded (words_of F.Tail.Tail L.Link W.Wire D.Disk) start
         (ending_of F.Folder K.Clock storing.new around.new phase) worked.met
         (drop context.entry.settings.now.output.workers outset.wires) around.new.wires.now.items) }
-    // If the scan is known, and folder, clock and wires tell, the run is accounted for, and each key keeps its row; after the
+    // If the scan, folder, clock and wires are known, the run is accounted for, and each key keeps its row; after the
     // last steps, the keeper has counted the events of the account; and a run that is done or stopped skipped the listed files
     // that it does not follow, each for its reason. Its moments begin with that of its scan.
     ensures accounted { (earlier : Earlier D) (folder : FolderTold) →
@@ -101,7 +101,7 @@ where
         (length scanned.entry.now.listed.items)
         (tolls_of F.Folder D.Disk B.Bell storing.old around.old)
         (tolls_of F.Folder D.Disk B.Bell storing.new around.new) worked.met) }
-    // A file that is said to have no numbers told none as it was opened.
+    // A file that is said to have no numbers had none reported as it was opened.
     ensures unnumbered { IfOk result (λ worked. IsMetUnnumbered context.entry.settings.now
         scanned.entry.now.listed.items (F.told around.old.folder.now)
         (F.told around.new.folder.now) worked.met) }

@@ -46,7 +46,7 @@ pub fn scan_again<F: Folder>(
         (folder_in F.Folder folder.old) (folder_in F.Folder folder.new)) }
     ensures names_path { IfErr result NamesPath }
 
-    // What is known of the files, whether or not the folder tells anything.
+    // What is known of the files, whether or not anything is known of the folder.
     ensures moment { IfOk result (λ scan. scan.now ≡ now) }
     ensures keyed { IfOk result (λ scan. All (λ one. IsSome one.key) scan.listed.items) }
     ensures keys_apart { IfOk result (λ scan. AreKeysApart scan.listed.items) }
@@ -66,7 +66,7 @@ pub fn scan_again<F: Folder>(
     }
 }
 
-/// The scan whose listings failed for these roots, and whose files were asked so.
+/// The scan whose listings failed for these roots, and whose files were asked this way.
 fn part_asked(
     alloc: Global,
     now: Moment,

@@ -36,7 +36,7 @@ pub fn store_all<T: Tail + Send, L: Link + Send, W: Wire<Link = L> + Send, D: Di
     unreachable!()
 }
 
-/// The last steps: stores all that is left. What they meet takes the place of what the run met. Takes as long as the disk does.
+/// The last steps: store the rest. What they hit takes the place of what the run hit. Takes as long as the disk does.
 pub fn settle_all<
     T: Tail + Send,
     L: Link + Send,

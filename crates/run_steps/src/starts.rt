@@ -13,11 +13,11 @@ use ship_core::Rows;
 use std::alloc::Global;
 use wire_base::{Row, Text};
 
-/// Where each listed file starts (Filebeat reference, filestream input and its registry): at the epoch and offset of its key's row where
-/// it is at least as long, at the next epoch and 0 where it is shorter, and without a row at epoch 0 and 0.
+/// Where each listed file starts (Filebeat reference, filestream input and its registry): at the epoch and offset of its key's row if
+/// it is at least as long, at the next epoch and 0 if it is shorter, and without a row at epoch 0 and 0.
 ///
-/// `TooMany` names what stands at its limit, and the path of the first file that needs one more: files, counted with all rows; or
-/// epochs, where a file is shorter than its row's offset. The files have different keys, so they are no more than are counted.
+/// `TooMany` names which count is at its limit, and the path of the first file that needs one more: files, with all rows; or
+/// epochs, if a file is shorter than its row's offset. The files have different keys, so they are no more than are counted.
 pub fn starts_of(alloc: Global, rows: &Rows, listed: &[Listed]) -> Result<Vec<Start>, JoinError>
     requires few_rows { length rows.now ≤ 65_536 }
     requires apart { AreKeysApart listed.now }
@@ -63,7 +63,7 @@ fn files_with(files: usize, row: Option<&Row>) -> usize
     }
 }
 
-/// Where the file of this row starts, where so many files count before it.
+/// Where the file of this row starts, if this many files count before it.
 fn start_at(
     alloc: Global,
     row: Option<&Row>,

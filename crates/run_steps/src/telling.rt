@@ -14,8 +14,8 @@ use ship_core::Rows;
 use std::alloc::Global;
 use wire_base::{MAX_MOMENT, Moment, NoMemory, Note, Slot};
 
-/// Tells the keeper how the file begins, with 0 for its moment of change. `Err` means out of memory, and leaves the keeper as it
-/// was; so is a file whose key the listing did not tell.
+/// Reports to the keeper how the file begins, with 0 for its moment of change. `Err` means out of memory, and leaves it as it
+/// was; a file whose key the listing did not give counts as that, too.
 pub(crate) fn tell_begin(
     alloc: Global,
     opening: Opening<'_>,
@@ -56,8 +56,8 @@ pub(crate) fn tell(alloc: Global, note: Note, keeper: &mut Keeper) -> Result<(),
     }
 }
 
-/// Tells the keeper when each file that is followed was changed: as the scan listed it, or as its row has it where that is later; a
-/// moment of 0 is not told. The slots are the places in the list. `Err` means out of memory, behind some of them.
+/// Reports when each file that is followed was changed: as the scan listed it, or as its row has it if that is later; a
+/// moment of 0 is not noted. The slots are the places in the list. `Err` means out of memory, after some of them.
 pub fn tell_moments(alloc: Global, listed: &[Listed], keeper: &mut Keeper) -> Result<(), NoMemory>
     requires few { length listed.now ≤ 65_536 }
     ensures told { OnOk result

@@ -42,7 +42,7 @@ use rounds::{Crew, Storing};
 use std::sync::Wait;
 use std::thread::Threads;
 
-/// What a run has done and met.
+/// What a run has done and found.
 #[derive(Drop)]
 pub struct Worked {
     /// The paths that were skipped as files were opened, each with why.
@@ -50,7 +50,7 @@ pub struct Worked {
     pub met: Met,
 }
 
-/// Rounds until one ends the run, and the last steps; then all files, lanes and workers are let go, and the wires are back in their
+/// Rounds until one ends the run, and the last steps; then all files, lanes and workers are released, and the wires are in their
 /// order. What ended the beginning of files ends the run before a round; a fault of a file ends it once the others are read. Takes as long as the files, the peers and the disk do.
 pub fn work<
     X: Threads + Wait + Sync,
@@ -109,7 +109,7 @@ where
         ≡ length crew.carriers.items + length around.old.wires.now.items }
     ensures clock_goes_on { MomentsGoOn (K.moments around.old.clock.now)
         (K.moments around.new.clock.now) }
-    // A report is told only where no file failed as it was begun.
+    // A report is given only if no file failed as it was begun.
     ensures told_only_where_begun { IsTelling result.met → AreAllBegun begun }
     ensures is_open { AreLeft result.met → storing.new.keeper.now.store.closed ≡ false }
     ensures passed { HasPassed begun result.passed.items }
@@ -205,7 +205,7 @@ where
     }
 }
 
-/// The last steps, except where the run was out of memory or met a disk's fault. What they meet takes the place of what it met.
+/// The last steps, except if the run was out of memory or hit a disk's fault. What they hit takes the place of what it hit.
 pub fn settle_after<
     T: Tail + Send,
     L: Link + Send,
@@ -233,7 +233,7 @@ pub fn settle_after<
     Worked { passed, met }
 }
 
-/// The last steps, where they are left to be made.
+/// The last steps, if they are still to be made.
 fn settle_where_left<
     T: Tail + Send,
     L: Link + Send,

@@ -1,5 +1,5 @@
 -- How the scans of a run listed the files that it opened (Filebeat reference, filestream input, prospector; this project's profile), by the entries
--- that each scan gave, and what the account of the run is told by them.
+-- that each scan gave, and what the account of the run is reported by them.
 use Rattle.std.specs.Prelude.{◌≡◌, ℕ, ◌<◌, ◌≤◌, List, ◌∷◌, ◌++◌, Contains, length, slice_get, Some, None}
 use Rattle.std.specs.List.{AllByRecursion}
 use Rattle.accounts.specs.ByScans.{IsByScans}
@@ -59,7 +59,7 @@ pub record WasListedBy (scans : List ToldScan) (opened : Opened) : Type 0 where
   pub since : length told.scanned.events ≤ opened.opening
   pub until : AllByRecursion (λ later. opened.opening < length later.earlier.events) behind
 
--- ---- what the account is told by the entries
+-- ---- what the account is reported by the entries
 
 -- the following begins by the entry of the scan from which on its key is known, or by its row, if the first scan gave no entry
 pub record AreBegunBy (run : ToldRun) : Type 0 where
@@ -70,8 +70,8 @@ pub record AreBegunBy (run : ToldRun) : Type 0 where
   pub newly_known : (followings : List Following) (following : Following) → find following.key run.opening ≡ None →
       NoneHasEntry run.scans following.key 0 following.known_from → IsNewlyKnown (run_by run) followings following
 
--- the scan that listed it is the last one before its opening that showed its key; a later one that was whole and gave no entry of the key tells that
--- it was removed, and one that gave an entry tells its name since. A scan that was whole and gave no entry of a key hides it
+-- the scan that listed it is the last before its opening that showed its key; a later whole one that gave no entry of the key reports that
+-- it was removed, and one that gave an entry reports its name since. A scan that was whole and gave no entry of a key hides it
 pub record AreShownBy (run : ToldRun) : Type 0 where
   pub hidden : (number : ℕ) (key : List ℕ) → HasNoMore run.scans number key → WasHiddenByWhole (run_by run) key number
   pub last : (opened : Opened) → WasListedBy run.scans opened → WasShownLast (run_by run) opened

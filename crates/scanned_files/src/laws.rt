@@ -1,7 +1,7 @@
 ghost use Rattle.scanned_files.specs.Listings.{AreBegunBy, AreShownBy, IsByItsScans};
 ghost use Rattle.told_scans.specs.ToldScans.{AreToldIn, ToldRun};
 
-/// A run whose scans came one after another, each as it was told, is a run by scans in the words of its account, if the clock gave
+/// A run whose scans came one after another, each as reported, is a run by scans in the terms of its account, if the clock gave
 /// the moments of its scans. A law; it computes nothing.
 pub fn told_runs_are_by_scans()
     ensures { (run : ToldRun) → AreToldIn run → IsByItsScans run }
@@ -14,7 +14,7 @@ pub fn entries_tell_how_files_begin()
 {}
 
 /// A file that a scan listed, and that was opened after it and before the next one, was shown last by that scan as it was opened. A
-/// later scan tells that it was removed if that was whole and gave no entry of its key, and one that gave an entry tells its path since.
+/// later scan reports that it was removed if that was whole and gave no entry of its key; one that gave an entry reports its path since.
 /// A whole scan that gave no entry of a key hides the key. A law; it computes nothing.
 pub fn entries_tell_what_became_of_files()
     ensures { (run : ToldRun) → AreToldIn run → AreShownBy run }

@@ -1,4 +1,4 @@
--- A folder goes on (this project's profile): its files are the same, and what it told stays in front of what it tells.
+-- A folder goes on (this project's profile): its files are the same, and what it reported stays the front of what it reports.
 use Rattle.std.specs.Prelude.{◌≡◌, List, ◌++◌}
 use Rattle.outside.specs.Folders.{Event, FolderHistory}
 

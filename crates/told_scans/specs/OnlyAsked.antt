@@ -1,4 +1,4 @@
--- What a folder's list shows of tails that were opened for nothing but a key (this project's profile): each told nothing but reads, and was
+-- What a folder's list shows of tails that were opened only for a key (this project's profile): each reported nothing but reads, and was
 -- closed.
 use Rattle.std.specs.Prelude.{◌≡◌, ℕ, suc, ◌≤◌, drop, List, ◌++◌, length, slice_get, Some}
 use Rattle.std.specs.List.{AllByRecursion}
@@ -21,13 +21,13 @@ pub record WasClosedWith (told : FolderHistory) (opening : ℕ) (looks : List Lo
   pub faults : ℕ
   pub closing : closing_in opening (drop (suc opening) told.events) ≡ Some (record { looks = looks; faults = faults })
 
--- it told nothing but reads, as where it was asked for its key
+-- it reported nothing but reads, as if it was asked for its key
 pub record WasOnlyAsked (told : FolderHistory) (opening : ℕ) : Type 0 where
   pub looks : List Look
   pub closed : WasClosedWith told opening looks
   pub reads : AllByRecursion (λ look. IsRead look.question) looks
 
--- so each tail was that was opened behind the first so many things that were done
+-- the same holds for each tail that was opened after the first things that were done, as many as this
 abbrev pub AreOnlyAsked : ℕ → FolderHistory → Type 0
 AreOnlyAsked since told = (opening : ℕ) (path : List ℕ) (number : ℕ) (begun : Sight) → since ≤ opening →
     slice_get told.events opening ≡ Some (Opened path number begun) → WasOnlyAsked told opening

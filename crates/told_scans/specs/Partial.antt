@@ -6,7 +6,7 @@ use Rattle.kept_rows.specs.Scans.{MetFault, globs_in, listings_from}
 use Rattle.outside.specs.Folders.{Event}
 use Rattle.prospect.specs.PastFaults.{Attempt, StandSo, glob_tried, unserved_by}
 
--- each of these stands at its place in a list, from this one on
+-- each of these is at its place in a list, from this one on
 abbrev pub AreAt : List Event → ℕ → List Event → Type 0
 AreAt events place [] = Unit {0}
 AreAt events place (event ∷ more) = (slice_get events place ≡ Some event) × AreAt events (suc place) more

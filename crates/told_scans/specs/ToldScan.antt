@@ -1,4 +1,4 @@
--- One scan as it was told (Filebeat reference, filestream input; this project's profile): what the folder had told before it, after its listings and
+-- One scan as it was reported (Filebeat reference, filestream input; this project's profile): the folder before it, after its listings and
 -- after its askings; what asking the listed files for their keys came to; which of those with a key are followed; its moment.
 -- A listing or an asking may have failed: the scan goes on past it, and is whole only if none did. The run around it goes on after it, with other
 -- scans before and after.
@@ -36,7 +36,7 @@ pub record ToldScan : Type 0 where
 
 -- ---- in the words of a run
 
--- at which opening the key was asked for, where the file was to be opened for it
+-- at which opening the key was asked for, if the file was to be opened for it
 abbrev pub opening_by : Answer → Option ℕ
 opening_by ByName = None
 opening_by (Gave opening key) = Some opening
@@ -47,7 +47,7 @@ opening_by (NotFound opening) = Some opening
 abbrev pub asking_of : AskedFile → Asking
 asking_of asked = record { input = asked.listed.input; path = asked.listed.path; opening = opening_by asked.answer }
 
--- its listings are those of the folder's list between what was told before and what stands behind them; it asked for the keys of all listed
+-- its listings are those of the folder's list between what was reported before and what is after them; it asked for the keys of all listed
 -- files
 abbrev pub scan_by : ToldScan → Scan
 scan_by told = record {
@@ -66,7 +66,7 @@ least_interval (input ∷ next ∷ inputs) = min input.check_interval (least_int
 abbrev pub IsDue : ToldScan → ℕ → Type 0
 IsDue told now = least_interval told.settings.inputs ≤ now - told.moment
 
--- ---- how it was told
+-- ---- how it was reported
 
 -- a failed listing is in the folder's list, too
 abbrev pub event_tried : Attempt → Event
@@ -118,7 +118,7 @@ pub record IsToldWithFault (told : ToldScan) : Type 0 where
 pub record RunAround : Type 0 where
   pub once : Bool
   pub opening : List Row
-  -- what the folder told at the run's end, and how many things were done with it before the run
+  -- what the folder reported at the run's end, and how many things were done with it before the run
   pub ended : FolderHistory
   pub began : ℕ
   pub open_tails : List OpenTail
@@ -143,7 +143,7 @@ run_around told around = record {
   scans = around.before ++ scan_by told ∷ around.behind;
 }
 
--- it began before the scan, and the scans behind it were made behind what this one did
+-- it began before the scan, and the scans after it were made after what this one did
 pub record IsAround (told : ToldScan) (around : RunAround) : Type 0 where
   pub goes_on : FolderGoesOn told.scanned around.ended
   pub since : around.began ≤ length told.earlier.events

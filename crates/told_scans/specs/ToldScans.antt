@@ -1,4 +1,4 @@
--- The scans of a run, one after another, each as it was told (Filebeat reference, filestream input, prospector; this project's profile). Before the
+-- The scans of a run, in sequence, each as reported (Filebeat reference, filestream input, prospector; this project's profile). Before the
 -- first, between two and after the last the run opens files and closes them, and lists nothing.
 use Rattle.std.specs.Prelude.{◌≡◌, ◌⊎◌, ℕ, ◌<◌, ◌≤◌, Bool, List, [], ◌∷◌, ◌++◌, Contains, length, map, slice_get, Some}
 use Rattle.std.specs.List.{AllByRecursion}
@@ -24,13 +24,13 @@ pub record NothingListed (before after : FolderHistory) : Type 0 where
   pub events : after.events ≡ before.events ++ more
   pub no_listing : AllByRecursion IsNoListing more
 
--- the next scan with these settings, once the folder told so much
+-- the next scan with these settings, once the folder reported this much
 pub record IsToldNext (settings : Settings) (before : FolderHistory) (told : ToldScan) : Type 0 where
   pub between : NothingListed before told.earlier
   pub settings_are : told.settings ≡ settings
   pub is : IsTold told
 
--- from what the folder told before the first scan to what it tells now
+-- from what the folder reported before the first scan to what it reports now
 abbrev pub AreToldFrom : Settings → FolderHistory → List ToldScan → FolderHistory → Type 0
 AreToldFrom settings before [] now = NothingListed before now
 AreToldFrom settings before (told ∷ scans) now = IsToldNext settings before told × AreToldFrom settings told.scanned scans now
@@ -54,12 +54,12 @@ LiesWithin place (told ∷ scans) = IsWithin told place ⊎ LiesWithin place sca
 
 -- ---- the run
 
--- a run as it was told
+-- a run as it was reported
 pub record ToldRun : Type 0 where
   pub settings : Settings
   pub once : Bool
   pub opening : List Row
-  -- what the folder told as the run began, and at its end
+  -- what the folder reported as the run began, and at its end
   pub earlier : FolderHistory
   pub ended : FolderHistory
   pub scans : List ToldScan
@@ -83,14 +83,14 @@ run_by run = record {
   scans = map scan_by run.scans;
 }
 
--- its scans are told one after another
+-- its scans are reported one after another
 abbrev pub AreToldIn : ToldRun → Type 0
 AreToldIn run = AreToldFrom run.settings run.earlier run.scans run.ended
 
 abbrev pub moments_in : List ToldScan → List ℕ
 moments_in scans = map (λ told. told.moment) scans
 
--- of the openings between its scans each is one of these, or its tail told nothing but reads
+-- of the openings between its scans each is one of these, or its tail reported nothing but reads
 abbrev pub AreOpenedFor : ToldRun → List ℕ → Type 0
 AreOpenedFor run openings = (opening : ℕ) (path : List ℕ) (number : ℕ) (begun : Sight) → LiesBetween opening run.earlier run.scans run.ended →
     slice_get run.ended.events opening ≡ Some (Opened path number begun) → Contains openings opening ⊎ WasOnlyAsked run.ended opening
@@ -115,7 +115,7 @@ pub record MayGoOn (run : ToldRun) : Type 0 where
 abbrev pub IsAskedWithin : ToldScan → Asking → Type 0
 IsAskedWithin told asking = (opening : ℕ) → asking.opening ≡ Some opening → IsWithin told opening
 
--- each entry was asked for its key, each asking met no fault or the scan is partial by it, and it shows what was listed
+-- each entry was asked for its key, each asking hit no fault or the scan is partial by it, and it shows what was listed
 pub record IsExactScan (run : Run) (told : ToldScan) : Type 0 where
   pub asked : AreAsked run (scan_by told)
   pub asked_so : AllByRecursion (WasAskedSo run (scan_by told)) told.askings
@@ -123,7 +123,7 @@ pub record IsExactScan (run : Run) (told : ToldScan) : Type 0 where
   pub asked_within : AllByRecursion (IsAskedWithin told) told.askings
   pub shows : ShowsExactly run (scan_by told) told.files
 
--- all listings of the run are those of its scans; no two askings have one opening; each opening is between scans, or its tail told nothing but reads
+-- all listings of the run are those of its scans; no two askings have one opening; each opening is between scans, or its tail only read
 pub record AreExactScans (run : ToldRun) : Type 0 where
   pub are_scans : StandInOrder (moments_in run.scans) run.moments → AreScans (run_by run)
   pub each : AllByRecursion (IsExactScan (run_by run)) run.scans

@@ -32,9 +32,9 @@ pub fn told_scans_show_what_was_listed()
         ShowsExactly (run_around told around) (scan_by told) told.files }
 {}
 
-/// Of a run whose scans came one after another, each as it was told, all listings are those of its scans, and each scan shows what it
+/// Of a run whose scans came one after another, each as reported, all listings are those of its scans, and each scan shows what it
 /// listed. An opening by which a scan asked for a key is within that scan, and no other asking has it; any other opening is between
-/// scans, or its tail told nothing but reads. A law; it computes nothing.
+/// scans, or its tail reported nothing but reads. A law; it computes nothing.
 pub fn told_scans_are_those_of_their_run()
     ensures { (run : ToldRun) → AreToldIn run → AreExactScans run }
 {}

@@ -150,7 +150,7 @@ const CALLS: u64 = 64;
 /// How many calls of the first worker's wire and link fail, one in each run.
 const PEER_CALLS: u64 = 6;
 
-/// The objects, and what the run ends with where one of their calls ends it: the exit status and
+/// The objects, and what the run ends with if one of their calls ends it: the exit status and
 /// the line.
 const OBJECTS: [(Object, u8, &str); 9] = [
     (Object::Source, 9, "status 9 source fault\n"),
@@ -196,8 +196,8 @@ fn use_up(alloc: Global, ran: &mut Ran) {
     }
 }
 
-/// The run ended with the status of the call's object, or, where it needs no such call or has a further
-/// attempt, with 0. True where the fault ended it.
+/// The run ended with the status of the call's object, or, if it needs no such call or has a further
+/// attempt, with 0. True if the fault ended it.
 fn is_ended(rt: &impl Abort, left: &Left, status: u8, line: &str) -> bool {
     let (rows, printed) = (left.rows.as_str(), left.printed.as_str());
     if left.code == 8 {
@@ -225,7 +225,7 @@ fn ends<X: Threads + Wait + Sync + AllocGlobal + Abort>(
     Ok(is_ended(rt, &left_by(rt, start)?, status, line))
 }
 
-/// How many calls of this object end the run where they fail: the first ones, each in a run of its
+/// How many calls of this object end the run if they fail: the first ones, each in a run of its
 /// own.
 fn ending_calls<X: Threads + Wait + Sync + AllocGlobal + Abort>(
     rt: &X,

@@ -81,7 +81,7 @@ const CUT_BEFORE_THE_RETURN: Case = Case {
     },
 };
 
-/// One carriage return belongs to the line, and the message is cut behind it.
+/// One carriage return belongs to the line, and the message is cut after it.
 const CUT_BEHIND_A_RETURN: Case = Case {
     name: "a message is cut behind a carriage return",
     start: Start {
@@ -153,7 +153,7 @@ const UNFLUSHED: Case = Case {
     },
 };
 
-/// A first line that flushes ends nothing, and neither does one behind a line that does not continue.
+/// A first line that flushes ends nothing, and neither does one after a line that does not continue.
 const FIRST_LINE_FLUSHES: Case = Case {
     name: "a first line that flushes",
     start: Start {
@@ -262,7 +262,7 @@ const COUNTED_WITHOUT_LINE_FEEDS: Case = Case {
 };
 
 /// Of the empty line, one that no pattern includes, one that a pattern excludes, one that is kept, and the same of bytes that
-/// are no UTF-8: one pattern matches on these, and the others before and behind them.
+/// are no UTF-8: one pattern matches on these, and the others before and after them.
 const FILTERED: Case = Case {
     name: "the first rule drops",
     start: Start {

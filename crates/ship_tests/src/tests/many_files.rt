@@ -199,7 +199,7 @@ file "filestream::w::path::/w/c.log" 0 4 "/w/c.log"
     },
 };
 
-/// A later look fails, and what was told of the file before is shipped, too.
+/// A later look fails, and what was reported of the file before is shipped, too.
 const READ_IN_PART: Case = Case {
     name: "one of two files cannot be read on",
     start: Start {
@@ -223,7 +223,7 @@ file "filestream::w::path::/w/b.log" 0 2 "/w/b.log"
     },
 };
 
-/// The bell rings behind the round in which a read failed.
+/// The bell rings after the round in which a read failed.
 const UNREAD_AND_STOPPED: Case = Case {
     name: "a file cannot be read, and then the run is stopped",
     start: Start {

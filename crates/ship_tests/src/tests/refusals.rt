@@ -93,7 +93,7 @@ const REFUSALS: &[(Asked, u8, &str)] = &[
         3,
         "status 3 settings clean too soon inputs.0\n",
     ),
-    // of several faults the first is told; each of these has those of the ones below it, too
+    // of several faults the first is reported; each of these has those of the ones below it, too
     (Asked::All(ALL_FAULTS), 2, USAGE),
     (
         Asked::All(Start {

@@ -142,7 +142,7 @@ const RENAMED_FILE: Restart = Restart {
     },
 };
 
-/// It keeps its first 112 bytes, and grows behind them.
+/// It keeps its first 112 bytes, and grows after them.
 const RENAMED_BY_FINGERPRINT: Restart = Restart {
     name: "renamed_by_fingerprint",
     first: FINGERPRINT,
@@ -201,7 +201,7 @@ const LONG_LINE: &[u8] =
 const OTHER_LINE: &[u8] =
     b"the second file, of which the first hundred and twelve bytes are this one line, and then come those of the next.\n";
 
-/// The scan takes its fingerprint by one read. Behind that it is cut and written anew, so the second asking needs two reads, of which the
+/// The scan takes its fingerprint by one read. After that it is cut and written anew, so the second asking needs two reads, of which the
 /// last fails.
 const FAULT_AS_ITS_KEY_IS_ASKED_AGAIN: Restart = Restart {
     name: "fault_as_its_key_is_asked_again",
@@ -304,7 +304,7 @@ const PICKS: u64 = 4;
 /// The row of the whole file.
 const LAST_ROW: &str = "file \"filestream::w::path::/w/a.log\" 0 4 \"/w/a.log\"\n";
 
-/// Makes a run whose disk stops behind so many calls, and one over what a crash leaves there.
+/// Makes a run whose disk stops after this many calls, and one over what a crash leaves there.
 fn crash<X: Threads + Wait + Sync + AllocGlobal>(
     rt: &X,
     calls: u64,

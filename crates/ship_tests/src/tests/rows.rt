@@ -203,7 +203,7 @@ const RANGE_OF_ABSENT_FIELD: Case = Case {
     wanted: BOTH,
 };
 
-/// The file is cut behind the first read, and grows once that was seen.
+/// The file is cut after the first read, and grows once that was seen.
 const TRUNCATED_BETWEEN_READS: Case = Case {
     name: "truncated_between_reads",
     start: Start {

@@ -31,12 +31,12 @@ pub enum Sent<'a> {
 #[derive(Clone, Copy)]
 pub struct Wanted<'a> {
     pub status: u8,
-    /// The rows of the registry as the report has them; `None` where both areas stay as they were.
+    /// The rows of the registry as the report has them; `None` if both areas stay as they were.
     pub rows: Option<&'a str>,
-    /// What is printed, behind the rows where the status is 0 or 1.
+    /// What is printed, after the rows if the status is 0 or 1.
     pub printed: &'a str,
     pub sent: Sent<'a>,
-    /// The clock's moment, in milliseconds after the run began; `None` where that is left open.
+    /// The clock's moment, in milliseconds after the run began; `None` if that is left open.
     pub moment: Option<u64>,
 }
 
@@ -167,7 +167,7 @@ fn check_payloads<X: AllocGlobal + Abort>(
     }
 }
 
-/// How many events are sent, where that is said.
+/// How many events are sent, if that is said.
 fn count_of(wanted: Sent) -> Option<u64> {
     match wanted {
         Sent::Open => None,
@@ -278,7 +278,7 @@ fn bytes_out(alloc: Global, talk: &[Piece]) -> Result<Vec<u8>, NoMemory> {
     Ok(bytes)
 }
 
-/// Adds the payloads of windows; `false` where the bytes are not whole windows.
+/// Adds the payloads of windows; `false` if the bytes are not whole windows.
 fn read_windows(alloc: Global, bytes: &[u8], payloads: &mut Vec<Text>) -> Result<bool, Fail> {
     let mut rest = bytes;
     let mut window = 0;

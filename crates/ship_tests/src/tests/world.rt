@@ -64,7 +64,7 @@ pub enum Peer<'a> {
 #[derive(Clone, Copy)]
 pub struct Start<'a> {
     pub words: &'a [&'a str],
-    /// The settings, where they are not those of one input `w` over `/w/*.log` with these lines.
+    /// The settings, if they are not those of one input `w` over `/w/*.log` with these lines.
     pub settings: Option<&'a str>,
     /// Lines before the input, in it and in the output.
     pub top: &'a str,
@@ -80,7 +80,7 @@ pub struct Start<'a> {
     pub quiet: u64,
     /// Calls that fail, each counted from 0 over the calls of its object.
     pub failing: &'a [(Object, u64)],
-    /// Behind so many calls the first area stops.
+    /// After this many calls the first area stops.
     pub stop_after: Option<u64>,
 }
 
@@ -319,7 +319,7 @@ fn last_first(alloc: Global, talks: (MemTalk, MemTalk)) -> Result<Vec<MemTalk>, 
     Ok(turned)
 }
 
-/// A wire whose first link has this talk, where there is one.
+/// A wire whose first link has this talk, if there is one.
 fn wire_of(alloc: Global, talk: Option<MemTalk>) -> Result<MemWire, NoMemory> {
     let mut talks = Vec::new(alloc);
     if let Some(talk) = talk {

@@ -21,10 +21,10 @@ enum Call {
 }
 
 /// The milliseconds of a call, the call, what it told, and how the file stands then: since when it is idle, up to where it was
-/// told, and whether it is to be forgotten at its end.
+/// reported, and whether it is to be forgotten at its end.
 type Row = (u32, Call, &'static [u8], Option<u64>, u64, bool);
 
-/// What a call told.
+/// What a call reported.
 fn called(
     alloc: Global,
     harvester: &mut Harvester<ScriptTail<'_>>,
@@ -49,7 +49,7 @@ fn called(
     Ok(written)
 }
 
-/// Whether the file stands as the row says.
+/// Whether the file is as the row says.
 fn stands(harvester: &Harvester<ScriptTail<'_>>, row: &Row) -> bool {
     harvester.idle_since() == row.3.map(Moment)
         && harvester.told() == (Epoch(0), row.4)

@@ -11,7 +11,7 @@ const TURNS: u32 = 6;
 /// The key of another path.
 const OTHER_KEY: &str = "filestream::w::path::/b";
 
-/// A file, the most bytes of its messages, what the looks at it find, the last one for good, and what six turns tell.
+/// A file, the most bytes of its messages, what the looks at it find, the last one for good, and what six turns report.
 struct Case {
     name: &'static str,
     group: Group,
@@ -141,7 +141,7 @@ fn identity(by_bytes: bool) -> IdentityRule
     }
 }
 
-/// What is told of a file that is replaced by one of another key.
+/// What is reported of a file that is replaced by one of another key.
 const ANOTHER_KEY: &[u8] = b"0-2 /a a;2-4 /a b;changed;no more;";
 
 /// Replaced by a file of another path's key, and by one that is too small for any.

@@ -12,7 +12,7 @@ use patterns::is_line_pattern;
 use std::alloc::Global;
 use wire_base::{Begin, Epoch, NoMemory, Slot, Text};
 
-/// The most bytes of a message where a row names no other limit.
+/// The most bytes of a message if a row names no other limit.
 pub const LIMIT: u64 = 10_485_760;
 
 /// How long an event waits for lines, in milliseconds.
@@ -36,7 +36,7 @@ pub fn text(alloc: Global, chars: &str) -> Result<Text, NoMemory>
     Ok(Text::from_string(String::from_str(alloc, chars)?))
 }
 
-/// The text, where it is a pattern.
+/// The text, if it is a pattern.
 fn pattern(alloc: Global, text: &str) -> Result<Text, NoMemory>
     ensures { IfOk result IsLinePattern }
 {

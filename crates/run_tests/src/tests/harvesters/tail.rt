@@ -1,4 +1,4 @@
-//! An open file that shows at each look what a script says. It tells nothing.
+//! An open file that shows at each look what a script says. Contracts know nothing of it.
 ghost use Rattle.std.specs.Prelude.{None};
 
 use outside::{Failed, Tail};

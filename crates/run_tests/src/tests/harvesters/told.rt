@@ -12,7 +12,7 @@ use wire_base::{Begin, Moment, NoMemory, Parcel};
 /// The milliseconds between two turns.
 const PAUSE: u64 = 1_000;
 
-/// The string of the payload before which so many quotes stand at its end.
+/// The string of the payload that has this many quotes at its end.
 fn string_in(payload: &[u8], quotes: usize) -> &[u8] {
     match str::from_utf8(payload) {
         Ok(text) => match text.rsplit('"').nth(quotes) {

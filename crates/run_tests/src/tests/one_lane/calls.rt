@@ -31,7 +31,7 @@ fn lane_of(alloc: Global, files: &[&'static [Look<'static>]]) -> Result<StillLan
     Ok(lane)
 }
 
-/// A slot, the place up to which its file was told and read, and since when it is idle.
+/// A slot, the place up to which its file was reported and read, and since when it is idle.
 type Seat = (u32, u64, Option<Moment>);
 
 /// The look at a seat finds this.
@@ -58,7 +58,7 @@ fn shows(lane: &StillLane, seats: &[Seat]) -> bool {
     lane.len() == seats.len()
 }
 
-/// A turn of it; `None` where its file has changed.
+/// A turn of it; `None` if its file has changed.
 fn turned(alloc: Global, harvester: &mut Harvester<ScriptTail<'static>>) -> Option<Turn> {
     if harvester.changed() {
         return None;
@@ -66,7 +66,7 @@ fn turned(alloc: Global, harvester: &mut Harvester<ScriptTail<'static>>) -> Opti
     Some(harvester.turn(alloc, NOW, false))
 }
 
-/// Two turns tell one event, whose payload ends so, and the file's end.
+/// Two turns report one event, whose payload ends so, and the file's end.
 fn tells(
     alloc: Global,
     harvester: &mut Harvester<ScriptTail<'static>>,
@@ -143,7 +143,7 @@ const CHANGES: &[Step] = &[
     Step::Shows(&[(0, 2, Some(NOW)), (1, 3, None)]),
 ];
 
-/// The last harvester takes the seat of the one that was let go, and is found there.
+/// The last harvester takes the seat of the one that was released, and is found there.
 const RELEASES: &[Step] = &[
     Step::Release(4, None),
     Step::Release(0, Some(Slot(0))),

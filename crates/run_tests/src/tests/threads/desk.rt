@@ -150,7 +150,7 @@ fn collect_all<R: Wait>(rt: &R, desk: &SettleBox, mut pass: CollectPass) -> (Col
     (pass, came)
 }
 
-/// Counts the note where it is its sender's next.
+/// Counts the note if it is its sender's next.
 fn count(came: &mut [u64; 4], note: &Note) {
     if let Note::Settle { slot, span, .. } = note
         && let Some(next) = came.get_mut(slot.0 as usize)

@@ -100,7 +100,7 @@ fn serve(listener: &TcpListener) -> io::Result<TcpStream> {
     Ok(peer)
 }
 
-/// What came of a round in which both workers send, and of one behind the acknowledgement of the living peer.
+/// What came of a round in which both workers send, and of one after the acknowledgement of the living peer.
 struct Rounds {
     sent: Answers,
     answered: Answers,
@@ -155,7 +155,7 @@ where
 type Dead = (usize, WorkerTurn, WorkerTurn, u64, u64);
 
 const DEAD: [Dead; 2] = [
-    // The peer stays silent. A receiving behind one that found nothing waits 10 milliseconds.
+    // The peer stays silent. A receive after one that found nothing waits 10 milliseconds.
     (1, WorkerTurn::NotYet, WorkerTurn::NotYet, 0, 10),
     // Nobody reads what is sent. A sending gives up 5 seconds after the system last took a byte.
     (

@@ -22,7 +22,7 @@ const PEERS: &[Peer] = &[
     (b"2A\0\0", None, b"", b"abcde"),
     (b"2A\0\0\0", None, b"", b"abcde"),
     (b"2A\0\0\0\0", None, b"", b"abcde"),
-    // too high, alone and behind a part
+    // too high, by itself and after a part
     (b"2A\0\0\0\x03", Some(5), b"", b"abcde"),
     (b"2A\0\0\0\x012A\0\0\0\x03", Some(11), b"a", b"bcde"),
     (b"2A\0\0\0\x01\xff", Some(6), b"a", b"bcde"),

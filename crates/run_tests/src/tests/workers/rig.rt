@@ -53,7 +53,7 @@ pub struct Rig<L> {
     ghost collects: { collect.desk ≡ desk.id },
 }
 
-/// A parcel of this name, whose payload is the name so often. None where there is no memory.
+/// A parcel of this name, whose payload is the name repeated. None if out of memory.
 fn parcel(alloc: Global, name: u8, length: usize) -> Option<Parcel>
     requires { length ≤ MAX_PAYLOAD }
     ensures { IfSome result IsParcel }

@@ -25,7 +25,7 @@ fn talk(alloc: Global, script: Script<'_>) -> Result<MemTalk, NoMemory> {
     })
 }
 
-/// A wire whose links have these peers, in their order. Behind them each peer acknowledges every window.
+/// A wire whose links have these peers, in their order. After them each peer acknowledges every window.
 pub fn scripted(alloc: Global, scripts: &[Script<'_>]) -> Result<MemWire, NoMemory> {
     let mut talks = Vec::new(alloc);
     for script in scripts {

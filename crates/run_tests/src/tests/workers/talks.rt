@@ -257,7 +257,7 @@ const NOT_AGAIN: &[Row] = &[
     (1_000, b"", Turns::All, WorkerTurn::Idle, b"bc", 0),
 ];
 
-/// A frame that begins before the window of b is out ends behind it.
+/// A frame that begins before the window of b is out ends after it.
 const EARLY: &[Row] = &[(0, b"ab", Turns::All, WorkerTurn::NotYet, b"a", 0)];
 
 /// Each is a window of its own, and the third one waits for the first.
