@@ -13,7 +13,7 @@ use wire_base::{Host, NoMemory, Text};
 const CONNECTING: u64 = 5;
 
 /// Hosts over TCP. A connecting tries the addresses of a name in turn; each has an equal part of the time that is left. A
-/// connection that is made is let go at once, and no byte goes over it.
+/// connection that is made is closed at once, and no byte goes over it.
 #[derive(Drop)]
 pub struct TcpHosts<R> {
     rt: R,

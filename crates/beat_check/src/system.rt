@@ -12,7 +12,7 @@ use std::rt::Files;
 use std::{fs, io};
 use wire_base::{NoMemory, Text};
 
-/// The system that the program runs on. It tells nothing to contracts.
+/// The system that the program runs on. Contracts know nothing of it.
 #[derive(Drop)]
 pub struct OwnSystem<R> {
     rt: R,

@@ -13,7 +13,7 @@ use std::process::ExitCode;
 use stdin::StdinSource;
 use wire_base::{NoMemory, Text};
 
-/// The arguments behind the program's name; none where one of them is not UTF-8, which the program does not take.
+/// The arguments after the program's name; none if one of them is not UTF-8, which the program does not take.
 fn words_of(rt: &(impl Env + AllocGlobal), alloc: Global) -> Result<Vec<Text>, NoMemory> {
     let mut words = Vec::new(alloc);
     match env::args(rt) {

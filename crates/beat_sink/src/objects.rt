@@ -47,7 +47,7 @@ fn stop_file(alloc: Global) -> Result<Text, NoMemory> {
     Ok(Text::from_string(String::from_str(alloc, "stop")?))
 }
 
-/// The arguments behind the program's name; none where one of them is not UTF-8, which no command takes.
+/// The arguments after the program's name; none if one of them is not UTF-8, which no command takes.
 fn words_of(rt: &(impl Env + AllocGlobal), alloc: Global) -> Result<Vec<Text>, NoMemory> {
     let mut words = Vec::new(alloc);
     match env::args(rt) {

@@ -9,10 +9,10 @@ use std::time::{Clock, Duration};
 use std::{io, thread};
 use wire_base::Host;
 
-/// How long an accepting that found nobody waits, in milliseconds.
+/// How long an accept that found nobody waits, in milliseconds.
 const PATIENCE: u64 = 10;
 
-/// A port over TCP. An accepting listens first if nothing does yet; one that finds nobody waits a hundredth of a second.
+/// A port over TCP. An accept listens first if nothing does yet; one that finds nobody waits a hundredth of a second.
 #[derive(Drop)]
 pub struct TcpPort<R> {
     rt: R,
@@ -47,7 +47,7 @@ impl<R: Net<Listener = TcpListener, Stream = TcpStream>> TcpPort<R> {
     }
 }
 
-/// A listener whose accepting does not wait.
+/// A listener whose accept does not wait.
 fn listener_at(
     rt: &impl Net<Listener = TcpListener, Stream = TcpStream>,
     host: &Host,
@@ -57,7 +57,7 @@ fn listener_at(
     Ok(listener)
 }
 
-/// Accepts a connection, if one is there; listens first where nothing does yet.
+/// Accepts a connection, if one is there; listens first if nothing does yet.
 fn link_from(
     rt: &impl Net<Listener = TcpListener, Stream = TcpStream>,
     host: &Host,

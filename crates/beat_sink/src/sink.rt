@@ -32,7 +32,7 @@ impl<R: Files<File = File>> FileSink<R> {
     }
 }
 
-/// Writes on in the file, made first where it is not open yet.
+/// Writes on in the file, made first if it is not open yet.
 fn write_on(
     rt: &impl Files<File = File>,
     path: &Text,
@@ -62,7 +62,7 @@ fn emptied(rt: &impl Files<File = File>, path: &Text) -> io::Result<File> {
     Ok(file)
 }
 
-/// Writes a front of the piece, again where a signal cut the call short; taking nothing of a nonempty piece is a failure.
+/// Writes a front of the piece, again if a signal cut the call short; taking nothing of a nonempty piece is a failure.
 fn write_some(writer: &mut impl Write, piece: &[u8]) -> io::Result<usize>
     ensures within { IfOk result (λ count. count ≤ length piece.now) }
     ensures some { IfOk result (λ count. 0 < length piece.now → 0 < count) }

@@ -4,7 +4,7 @@ use outside::{Failed, Source};
 use std::io;
 use std::io::{ErrorKind, Read};
 
-/// Standard input, from front to end; it tells nothing of content.
+/// Standard input, from front to end; nothing of its content is known.
 #[derive(Drop)]
 pub struct StdinSource<I> {
     reader: I,
@@ -36,7 +36,7 @@ impl<I: Read + Drop> Source for StdinSource<I> {
     }
 }
 
-/// Reads once, and again where a signal cut the call short.
+/// Reads once, and again if a signal cut the call short.
 fn read_some(reader: &mut impl Read, into: &mut [u8]) -> io::Result<usize>
     ensures { IfOk result (λ count. count ≤ length into.old) }
 {

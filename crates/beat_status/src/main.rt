@@ -15,7 +15,7 @@ use std::process::ExitCode;
 use std::rt::Files;
 use wire_base::{Moment, NoMemory, Text};
 
-/// The arguments behind the program's name; none where one of them is not UTF-8, which the program does not take.
+/// The arguments after the program's name; none if one of them is not UTF-8, which the program does not take.
 fn words_of(rt: &(impl Env + AllocGlobal), alloc: Global) -> Result<Vec<String>, NoMemory> {
     let mut words = Vec::new(alloc);
     match env::args(rt) {
@@ -71,7 +71,7 @@ fn look(rt: &HostRuntime, asked: Asked) -> Result<Status, NoMemory> {
     ))
 }
 
-/// Says why nothing is shown. Where that cannot be written, the exit status still tells it.
+/// Says why nothing is shown. If that cannot be written, the exit status still says it.
 fn refused(rt: &HostRuntime, status: &Status) -> ExitCode {
     let _ = status_line(status, &mut ErrorSink::new(rt));
     ExitCode::from(status.code())

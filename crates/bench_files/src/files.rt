@@ -31,7 +31,7 @@ fn open(table: &mut FileTable, slot: Slot) {
     }
 }
 
-/// How many changes so many scans told of so many files, each of which grew before each scan.
+/// How many changes these scans reported of these files, each of which grew before each scan.
 pub(crate) fn grown(alloc: Global, files: u64, scans: u64) -> Result<u64, ProspectError> {
     let mut seen = shown(alloc, files)?;
     let mut prospector = Prospector::begin(alloc, &[], 0)?;

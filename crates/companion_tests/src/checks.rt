@@ -136,7 +136,7 @@ const CASES: &[Case] = &[
         ],
         ..PLAIN
     },
-    // one host alone, which connects, and another that does not
+    // one host by itself, which connects, and another that does not
     Case {
         settings: "[[inputs]]\nid = 'w'\npaths = ['/w/*.log']\nfile_identity = 'path'\n[output]\nhosts = ['h:1']\n",
         files: &[],
@@ -291,7 +291,7 @@ fn hosts(alloc: Global) -> Result<MemHosts, Fail> {
     })
 }
 
-/// What the case's check ends with, what it has printed, and what it has told.
+/// What the case's check ends with, what it has printed, and what it has reported.
 fn look(alloc: Global, case: &Case<'_>) -> Result<(Ending, MemSink, MemSink), Fail> {
     let asked = Asked {
         settings: text(alloc, "beat.toml")?,

@@ -13,7 +13,7 @@ const PARTIAL_LINES_OF_BOTH_STREAMS: &[u8] = b"t stdout P ab\nt stderr F x\nt st
 const DOCKER_LINES: &[u8] =
     b"{\"log\":\"ab\",\"stream\":\"stdout\",\"time\":\"t\"}\n{\"log\":\"cd\\n\",\"stream\":\"stdout\",\"time\":\"t\"}\nx\n";
 
-/// Writes what each complete line of a log is told as.
+/// Writes what each complete line of a log is reported as.
 fn tellings(alloc: Global, format: Format, keep: Keep, log: &[u8]) -> Result<Vec<u8>, NoMemory> {
     let mut written = Vec::new(alloc);
     if log.len() > 1000 {
@@ -89,7 +89,7 @@ fn lines_are_joined_stream_by_stream(rt: HostRuntime) -> Result<(), Fail> {
             b"t stdout P a\n\nt stdout F b\nt stdout P c\n",
             b"waits;malformed;stdout 0-13 14-27 ab;waits;",
         ),
-        // Further tags, a text of spaces, and nothing behind the tag.
+        // Further tags, a text of spaces, and nothing after the tag.
         (
             Format::Cri,
             Keep::All,

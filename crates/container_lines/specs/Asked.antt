@@ -22,7 +22,7 @@ abbrev pub asked_by : List ℕ → List ℕ → List ℕ → List ℕ → Option
 asked_by first format second stream =
     if bytes_eq first (codes "--format") && bytes_eq second (codes "--stream") then option_and_then (λ named. option_map (λ keep. asked named keep) (keep_named stream)) (format_named format) else None
 
--- what the arguments ask for; none where they are not these
+-- what the arguments ask for; none if they are not these
 abbrev pub asked_of : List (List ℕ) → Option Asked
 asked_of [] = None
 asked_of (first ∷ []) = None

@@ -9,12 +9,12 @@ use Rattle.container_lines.specs.Parts.{part_of}
 abbrev pub bad_lines : Format → List Line → List Line
 bad_lines format lines = filter (λ line. not (is_some (part_of format line))) lines
 
--- the start of the first of these lines, and their number; none where there are no lines
+-- the start of the first of these lines, and their number; none if there are no lines
 abbrev pub first_and_count : List Line → Option BadLines
 first_and_count [] = None
 first_and_count (line ∷ lines) = Some (record { first = line.span.start; count = length (line ∷ lines) })
 
--- the lines of no format by the start of the first and by their number; none where each line is of the format
+-- the lines of no format by the start of the first and by their number; none if each line is of the format
 abbrev pub bad_found : Format → List Line → Option BadLines
 bad_found format lines = first_and_count (bad_lines format lines)
 

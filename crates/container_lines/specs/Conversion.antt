@@ -1,5 +1,5 @@
--- A log of which some bytes were read (this project's profile): its lines were handed out, told to the joiner and counted
--- where they are of no format; what the joined lines spell stands in the sink or waits to be written.
+-- A log of which some bytes were read (this project's profile): its lines were handed out, given to the joiner and counted
+-- if they are of no format; what the joined lines spell is in the sink or waits to be written.
 use Rattle.std.specs.Prelude.{◌≡◌, ℕ, ◌++◌, List, [], ◌∷◌, Option}
 use Rattle.line_cutter.specs.declared.line.Line.{Line}
 use Rattle.line_cutter.specs.Cutting.{HasCut}
@@ -15,7 +15,7 @@ pub record Aim : Type 0 where
   pub asked : Asked
   pub before : Option (List ℕ)
 
--- what was read of a log: its bytes, the lines that were handed out, and those that were told
+-- what was read of a log: its bytes, the lines that were handed out, and those that were given to the joiner
 pub record Progress : Type 0 where
   pub fed : List ℕ
   pub given : List Line
@@ -31,7 +31,7 @@ pub record Converts (aim : Aim) (progress : Progress) (written : Option (List �
   pub bad : log.bad ≡ bad_found aim.asked.format progress.told
   pub output : StandsOrWaits aim.before (text_of aim progress.told) written log.output.items
 
--- the same of so many lines, all of which were told
+-- the same of this many lines, all of which were given to the joiner
 abbrev pub ConvertsLines : Aim → List ℕ → List Line → Option (List ℕ) → Conversion → Type 0
 ConvertsLines aim fed lines written log = Converts aim (record { fed = fed; given = lines; told = lines }) written log
 
@@ -39,6 +39,6 @@ ConvertsLines aim fed lines written log = Converts aim (record { fed = fed; give
 abbrev pub ConvertsAll : Aim → List ℕ → Option (List ℕ) → Conversion → Type 0
 ConvertsAll aim fed written log = ConvertsLines aim fed (log_lines fed) written log
 
--- the line was handed out behind these lines, which were told, and was not told yet
+-- the line was handed out after these lines, which were given to the joiner, and it was not given yet
 abbrev pub IsHanded : Aim → List ℕ → List Line → Line → Option (List ℕ) → Conversion → Type 0
 IsHanded aim fed lines line written log = Converts aim (record { fed = fed; given = lines ++ line ∷ []; told = lines }) written log

@@ -1,5 +1,5 @@
 -- A line of a Docker log (Docker's json-file driver; RFC 8259): one JSON object, as `serde_json` reads it, whose `log` and
--- `time` are texts and whose `stream` is `stdout` or `stderr`; it may have other keys. It is partial where `log` does not
+-- `time` are texts and whose `stream` is `stdout` or `stderr`; it may have other keys. It is partial if `log` does not
 -- end in a line feed; else that line feed is left out of its text.
 use Rattle.std.specs.Prelude.{ℕ, ◌-◌, ◌==◌, Bool, not, List, length, take, slice_index, codes, Option, None, option_map, option_and_then, if◌then◌else◌}
 use Rattle.std.specs.Str.{is_utf8}
@@ -31,7 +31,7 @@ logged_part value log =
 abbrev pub object_part : Data → Option Part
 object_part value = option_and_then (logged_part value) (text_at (codes "log") value)
 
--- the value that a content is; none where it is no JSON text
+-- the value that a content is; none if it is no JSON text
 unfoldable pub value_of : List ℕ → Option Data
 value_of content = if is_utf8 content then read content else None
 

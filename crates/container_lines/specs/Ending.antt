@@ -24,14 +24,14 @@ faulty_status fault.Source = SourceFault
 faulty_status fault.Out = OutFault
 faulty_status fault.NoMemory = NoMemory
 
--- counts of faults of a source and of a sink, before and behind a call
+-- counts of faults of a source and of a sink, before and after a call
 pub record Faults : Type 0 where
   pub source_before : ℕ
   pub source_now : ℕ
   pub sink_before : ℕ
   pub sink_now : ℕ
 
--- the fault comes only where that count rose
+-- the fault comes only if that count rose
 abbrev pub IsCaused : Faults → Fault → Type 0
 IsCaused counts fault.Source = Rose counts.source_before counts.source_now
 IsCaused counts fault.Out = Rose counts.sink_before counts.sink_now

@@ -29,7 +29,7 @@ message_of lines = take MAX_MESSAGE (flat_map (λ line. line.part.text) lines)
 abbrev pub joined_of : Stream → List Placed → Joined
 joined_of stream lines = record { parts = spans_of lines; stream = stream; message = message_of lines }
 
--- what a part of a stream that is kept is told as, by the lines before it
+-- what a part of a stream that is kept is reported as, by the lines before it
 abbrev pub told_kept : Format → List Line → Extent → Part → Told
 told_kept format before span part =
     if part.partial then Waits else Whole (joined_of part.stream (waiting (stream_lines format part.stream before) ++ placed span part ∷ []))
@@ -38,7 +38,7 @@ abbrev pub told_part : Format → Keep → List Line → Extent → Option Part 
 told_part format keep before span None = Malformed
 told_part format keep before span (Some part) = if is_kept keep part.stream then told_kept format before span part else Other
 
--- what a line is told as, by the lines before it
+-- what a line is reported as, by the lines before it
 abbrev pub told_of : Format → Keep → List Line → Line → Told
 told_of format keep before line = told_part format keep before line.span (part_of format line)
 
@@ -48,7 +48,7 @@ joined_in Waits = []
 joined_in Other = []
 joined_in Malformed = []
 
--- the joined lines whose last parts are among `lines`, which stand behind `before`, in the order of their last parts
+-- the joined lines whose last parts are among `lines`, which come after `before`, in the order of their last parts
 abbrev pub joined_behind : Format → Keep → List Line → List Line → List Joined
 joined_behind format keep before [] = []
 joined_behind format keep before (line ∷ lines) =
@@ -57,7 +57,7 @@ joined_behind format keep before (line ∷ lines) =
 abbrev pub joined_lines : Format → Keep → List Line → List Joined
 joined_lines format keep lines = joined_behind format keep [] lines
 
--- messages, each with a line feed behind it
+-- messages, each with a line feed after it
 abbrev pub spelled : List Joined → List ℕ
 spelled lines = flat_map (λ joined. joined.message ++ 10 ∷ []) lines
 

@@ -32,7 +32,7 @@ no_line = record { parts = []; message = [] }
 abbrev pub waiting_of : List Placed → Waiting
 waiting_of lines = record { parts = spans_of lines; message = message_of lines }
 
--- what waits of a stream behind these lines; nothing of a stream that is not kept
+-- what waits of a stream after these lines; nothing of a stream that is not kept
 abbrev pub waits_of : Format → Keep → Stream → List Line → Waiting
 waits_of format keep stream lines = if is_kept keep stream then waiting_of (waiting (stream_lines format stream lines)) else no_line
 
@@ -67,7 +67,7 @@ abbrev pub answer_kept : Waiting → Extent → Part → Told
 answer_kept waiting span part =
     if part.partial then Waits else Whole (joined_waiting part.stream (with_part waiting span part.text))
 
--- what waits behind it
+-- what waits after it
 abbrev pub behind_kept : Waiting → Extent → Part → Waiting
 behind_kept waiting span part = if part.partial then with_part waiting span part.text else no_line
 
@@ -77,7 +77,7 @@ answer_to joiner span None = Malformed
 answer_to joiner span (Some part) =
     if is_kept joiner.keep part.stream then answer_kept (waiting_in joiner part.stream) span part else Other
 
--- the joiner behind it
+-- the joiner after it
 abbrev pub behind_part : Joining → Extent → Option Part → Joining
 behind_part joiner span None = joiner
 behind_part joiner span (Some part) =

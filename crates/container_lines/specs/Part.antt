@@ -1,5 +1,5 @@
 -- What a line of a container log says (Kubernetes' CRI log format; Docker's json-file driver): a text of a stream, which
--- is partial where the container's own line goes on in a later one.
+-- is partial if the container's own line goes on in a later one.
 use Rattle.std.specs.Prelude.{ℕ, Bool, true, false, List, codes, Option, Some, None, if◌then◌else◌}
 use Rattle.std.specs.Str.{bytes_eq}
 use Rattle.container_lines.specs.declared.format.Stream.{Stream}

@@ -15,7 +15,7 @@ abbrev pub part_in : Format → List ℕ → Option Part
 part_in Cri content = cri_part content
 part_in Docker content = docker_part content
 
--- what a line says; none where it is of no format
+-- what a line says; none if it is of no format
 unfoldable pub part_of : Format → Line → Option Part
 part_of format line = if nat_le line.full MAX_CONTENT then part_in format line.head else None
 
@@ -27,7 +27,7 @@ pub record Placed : Type 0 where
 abbrev pub placed : Extent → Part → Placed
 placed span part = record { span = span; part = part }
 
--- the line, where it is of the format and of this stream
+-- the line, if it is of the format and of this stream
 abbrev pub of_stream : Stream → Extent → Option Part → List Placed
 of_stream stream span None = []
 of_stream stream span (Some part) = if is_same stream part.stream then placed span part ∷ [] else []
@@ -41,7 +41,7 @@ abbrev pub are_partial : List Placed → Bool
 are_partial [] = true
 are_partial (line ∷ lines) = if line.part.partial then are_partial lines else false
 
--- the partial lines behind the last line that is not partial
+-- the partial lines after the last line that is not partial
 abbrev pub waiting : List Placed → List Placed
 waiting [] = []
 waiting (line ∷ lines) = if are_partial (line ∷ lines) then line ∷ lines else waiting lines

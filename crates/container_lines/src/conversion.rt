@@ -20,7 +20,7 @@ use outside::Sink;
 use std::alloc::Global;
 use wire_base::{MAX_PLACE, NoMemory};
 
-/// Once so many bytes wait they are written.
+/// Once this many bytes wait they are written.
 const OUTPUT: usize = 65_536;
 
 /// A log of which some bytes were read.
@@ -58,7 +58,7 @@ impl Conversion {
         })
     }
 
-    /// Takes the bytes that stand behind all that was read before.
+    /// Takes the bytes that come after all that was read before.
     pub fn piece<S: Sink>(&mut self, piece: &[u8], out: &mut S) -> Result<(), Fault>
         ensures converted { OnOk result ((aim : Aim) (fed : List ℕ) →
             ConvertsAll aim fed (S.written out.old) self.old →
@@ -79,7 +79,7 @@ impl Conversion {
         self.take_lines(out)
     }
 
-    /// Tells the joiner each line that is complete by now.
+    /// Gives the joiner each line that is complete by now.
     fn take_lines<S: Sink>(&mut self, out: &mut S) -> Result<(), Fault>
         ensures converted { OnOk result ((aim : Aim) (fed : List ℕ) (lines : List LineOf) →
             ConvertsLines aim fed lines (S.written out.old) self.old →
@@ -98,7 +98,7 @@ impl Conversion {
         Ok(())
     }
 
-    /// Tells the joiner the line that was handed out last.
+    /// Gives the joiner the line that was handed out last.
     fn take_line<S: Sink>(&mut self, line: &Line, out: &mut S) -> Result<(), Fault>
         ensures converted { OnOk result ((aim : Aim) (fed : List ℕ) (lines : List LineOf) →
             IsHanded aim fed lines line.now (S.written out.old) self.old →
@@ -120,7 +120,7 @@ impl Conversion {
         }
     }
 
-    /// Puts a message and a line feed behind what waits to be written.
+    /// Puts a message and a line feed after what waits to be written.
     fn put<S: Sink>(&mut self, message: &[u8], out: &mut S) -> Result<(), Fault>
         ensures put { OnOk result ((before : Option (List ℕ)) (text : List ℕ) →
             StandsOrWaits before text (S.written out.old) self.old.output.items →

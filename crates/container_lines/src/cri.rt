@@ -5,7 +5,7 @@ ghost use Rattle.container_lines.specs.Part.{part_with};
 use crate::part::{Part, stream_named};
 use memchr::memchr;
 
-/// What a line with this content says by Kubernetes' CRI log format; `None` where it is not of the format.
+/// What a line with this content says by Kubernetes' CRI log format; `None` if it is not of the format.
 pub fn cri_part<'a>(content: &'a [u8]) -> Option<Part<'a>>
     ensures { option_map (λ found. part_with found.stream found.partial found.text.now) result
         ≡ cri_part content.now }
@@ -19,7 +19,7 @@ pub fn cri_part<'a>(content: &'a [u8]) -> Option<Part<'a>>
     streamed_part(rest)
 }
 
-/// What stands behind the stamp.
+/// What is after the stamp.
 fn streamed_part<'a>(bytes: &'a [u8]) -> Option<Part<'a>>
     ensures { option_map (λ found. part_with found.stream found.partial found.text.now) result
         ≡ streamed_part bytes.now }
@@ -41,7 +41,7 @@ fn streamed_part<'a>(bytes: &'a [u8]) -> Option<Part<'a>>
     })
 }
 
-/// The bytes before the first space and those behind it.
+/// The bytes before the first space and those after it.
 fn split_field<'a>(bytes: &'a [u8]) -> Option<(&'a [u8], &'a [u8])>
     ensures { option_map (λ fields. (fields.0.now, fields.1.now)) result ≡ split_field bytes.now }
 {
@@ -51,7 +51,7 @@ fn split_field<'a>(bytes: &'a [u8]) -> Option<(&'a [u8], &'a [u8])>
     }
 }
 
-/// The same, with all bytes and nothing behind them where there is no space.
+/// The same, with all bytes and nothing after them if there is no space.
 fn last_field<'a>(bytes: &'a [u8]) -> (&'a [u8], &'a [u8])
     ensures { (result.0.now, result.1.now) ≡ last_field bytes.now }
 {
@@ -61,7 +61,7 @@ fn last_field<'a>(bytes: &'a [u8]) -> (&'a [u8], &'a [u8])
     }
 }
 
-/// Whether a line with this tag is partial; `None` where this is no tag.
+/// Whether a line with this tag is partial; `None` if this is no tag.
 fn tag_partial(tag: &[u8]) -> Option<bool>
     ensures { result ≡ tag_partial tag.now }
 {

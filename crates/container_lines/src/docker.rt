@@ -8,7 +8,7 @@ use serde_json::Value;
 use std::alloc::Global;
 use wire_base::NoMemory;
 
-/// The value of a line's content; `None` where it is no JSON text.
+/// The value of a line's content; `None` if it is no JSON text.
 pub fn json_value(alloc: Global, content: &[u8]) -> Result<Option<Value>, NoMemory>
     ensures { IfOk result (λ found. option_map view found ≡ value_of content.now) }
 {
@@ -19,7 +19,7 @@ pub fn json_value(alloc: Global, content: &[u8]) -> Result<Option<Value>, NoMemo
     }
 }
 
-/// What a line with this value says by Docker's json-file driver; `None` where it is not of the format.
+/// What a line with this value says by Docker's json-file driver; `None` if it is not of the format.
 pub fn object_part<'a>(value: &'a Value) -> Option<Part<'a>>
     ensures { option_map (λ found. part_with found.stream found.partial found.text.now) result
         ≡ object_part (view value.now) }

@@ -58,7 +58,7 @@ impl Joiner {
         })
     }
 
-    /// Takes the next line of the log, and tells what it is. Its head is its whole content, or of a longer one the first
+    /// Takes the next line of the log, and reports what it is. Its head is its whole content, or if longer the first
     /// `MAX_CONTENT` bytes.
     pub fn line(&mut self, line: &Line) -> Result<Told, NoMemory>
         ensures told_by_the_lines { IfOk result (λ told.

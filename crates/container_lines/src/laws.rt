@@ -8,7 +8,7 @@ ghost use Rattle.container_lines.specs.Joined.{joined_lines, parts_of, spans_of}
 ghost use Rattle.container_lines.specs.Part.{is_kept};
 ghost use Rattle.container_lines.specs.Parts.{stream_lines, waiting};
 
-/// The lines of a stream that is kept are, in their order and each once, the parts of its joined lines and behind them
+/// The lines of a stream that is kept are, in their order and each once, the parts of its joined lines and after them
 /// the partial lines that wait; a stream that is not kept has no joined line. A law; it computes nothing.
 pub fn each_line_once()
     ensures kept { (format : Format) (keep : Keep) (stream : Stream) (lines : List Line) →

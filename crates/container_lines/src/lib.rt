@@ -5,9 +5,9 @@
 //! lines together with the stream's next line, which is not partial, is one of the container's own lines. Parts, joined
 //! lines and the plain text of a log are definitions of `specs/`, each of whole lists of lines.
 //!
-//! A `Joiner` is given the lines of a log one by one, and tells of each what it is, exactly as the definition has it for
+//! A `Joiner` is given the lines of a log one by one, and reports what each is, exactly as the definition has it for
 //! the lines before. `container_run` reads a source to its end and writes the plain text of its bytes, or a front of it
-//! where it ends before; `Done` and `BadLines` say which lines are of no format. The laws say that each line of a stream
+//! if it ends before; `Done` and `BadLines` say which lines are of no format. The laws say that each line of a stream
 //! that is kept is a part of one joined line or waits, and that joined lines stay however the log goes on.
 //!
 //! Not promised: that `container_run` returns, and that a partial line at the end of a log is ever written.

@@ -3,7 +3,7 @@ ghost use Rattle.container_lines.specs.Part.{stream_named};
 
 use crate::format::Stream;
 
-/// What a line says, as its bytes stand in the line or beside it.
+/// What a line says, as its bytes are in the line or beside it.
 #[derive(Clone, Copy)]
 pub struct Part<'a> {
     pub stream: Stream,

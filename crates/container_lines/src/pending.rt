@@ -78,7 +78,7 @@ impl Pending {
     }
 }
 
-/// Puts so many bytes of the text behind the message that it has at most `MAX_MESSAGE`.
+/// Appends bytes of the text to the message, as many as leave it at most `MAX_MESSAGE` bytes.
 fn extend_message(message: &mut Vec<u8>, text: &[u8]) -> Result<(), NoMemory>
     requires { length message.old.items ≤ MAX_MESSAGE }
     ensures longer { OnOk result (message.new.items

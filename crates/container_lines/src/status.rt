@@ -21,7 +21,7 @@ pub enum ContainerStatus {
     /// Lines are not of the format; the first begins at `first`, and `count` is their number.
     BadLines { first: u64, count: u64 },
     OutFault,
-    /// Also where the source gives more than `MAX_PLACE` bytes.
+    /// Also if the source gives more than `MAX_PLACE` bytes.
     NoMemory,
 }
 

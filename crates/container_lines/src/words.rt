@@ -12,7 +12,7 @@ pub struct Asked {
     pub keep: Keep,
 }
 
-/// What the arguments ask for; `None` exactly where they are not `--format F --stream S`.
+/// What the arguments ask for; `None` exactly if they are not `--format F --stream S`.
 pub fn read_words(words: &[Text]) -> Option<Asked>
     ensures { result ≡ asked_of words.now }
 {

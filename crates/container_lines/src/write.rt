@@ -4,7 +4,7 @@ ghost use Rattle.container_lines.specs.Output.{HasAll, HasFront};
 
 use outside::{Failed, Sink};
 
-/// Writes all of the bytes, or a front of them where the sink fails. Takes no memory.
+/// Writes all of the bytes, or a front of them if the sink fails. Takes no memory.
 pub fn write_all<S: Sink>(out: &mut S, bytes: &[u8]) -> Result<(), Failed>
     ensures all { OnOk result (HasAll (S.written out.old) bytes.now (S.written out.new)) }
     ensures front { OnErr result (HasFront (S.written out.old) bytes.now (S.written out.new)) }

@@ -1,4 +1,4 @@
--- Which status a look may end with, and what causes it (this project's profile). Out of memory alone needs no cause.
+-- Which status a look may end with, and what causes it (this project's profile). Only out of memory needs no cause.
 use Rattle.std.specs.Prelude.{◌≡◌, ◌⊎◌, ℕ, List, Option}
 use Rattle.event_tree.specs.declared.input_rule.InputRule.{InputRule}
 use Rattle.outside.specs.Counts.{Rose}

@@ -1,5 +1,5 @@
 -- What a look shows (this project's profile): the settings that the source spells, the rows that both registry areas give by
--- the choice between them, the files that one scan tells, and these joined.
+-- the choice between them, the files that one scan reports, and these joined.
 use Rattle.std.specs.Prelude.{◌≡◌, ℕ, List, take, Option, Some, IfSome}
 use Rattle.beat_config.specs.Document.{AreSettingsOf}
 use Rattle.event_tree.specs.declared.settings.Settings.{Settings}
@@ -19,7 +19,7 @@ use Rattle.file_progress.specs.declared.registry.Registry.{Registry}
 use Rattle.file_progress.specs.declared.scan.Scan.{Scan}
 use Rattle.file_progress.specs.declared.settings.TheConstants.{LIMIT}
 
--- what the objects of a look told as it began, and folder and clock as it ended
+-- what was known of the objects of a look as it began, and of folder and clock as it ended
 pub record Told : Type 0 where
   pub settings : Option (List ℕ)
   pub area_a : Option (List ℕ)
@@ -49,7 +49,7 @@ faults_of folders disks source outside = record {
   area_b = disks.faults outside.area_b;
 }
 
--- the settings that all bytes of the source spell, as far as it tells them
+-- the settings that all bytes of the source spell, as far as these are known
 abbrev pub IsNamed : Told → Settings → Type 0
 IsNamed told settings = IfSome told.settings (λ bytes. AreSettingsOf (take LIMIT bytes) settings)
 

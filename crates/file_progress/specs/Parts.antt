@@ -1,4 +1,4 @@
--- What stands in a line for one of its parts (this project's profile; the values of labels are those of the text format of
+-- What is in a line for one of its parts (this project's profile; the values of labels are those of the text format of
 -- Prometheus).
 use Rattle.std.specs.Prelude.{ℕ, ◌-◌, ◌==◌, if◌then◌else◌, List, [], ◌∷◌, ◌++◌, length, replicate, codes, decimal, Option, None, Some}
 use Rattle.std.specs.List.{flat_map}
@@ -9,7 +9,7 @@ use Rattle.file_progress.specs.declared.part.Part.TheVariants.{Label, Left, Numb
 abbrev pub spaces : ℕ → ℕ → List ℕ
 spaces columns size = replicate (columns - size) 32
 
--- the number, or a line where there is none
+-- the number, or a line if there is none
 abbrev pub number_or_line : Option ℕ → List ℕ
 number_or_line None = codes "-"
 number_or_line (Some number) = decimal number
@@ -21,7 +21,7 @@ right_of columns text = spaces columns (length text) ++ text
 abbrev pub left_of : ℕ → List ℕ → List ℕ
 left_of columns text = text ++ spaces columns (length text)
 
--- a backslash, a quotation mark and a line feed do not stand as they are
+-- a backslash, a quotation mark and a line feed do not stay as they are
 abbrev pub label_escape : ℕ → List ℕ
 label_escape byte =
     if byte == 0x5C then codes "\\\\"

@@ -1,6 +1,6 @@
 -- How far each file is (this project's profile): each row of the registry once, in the registry's order, with the file that
 -- the scan found by its key; then each found file that has no row, those whose key a file with an earlier path has, and
--- those that are too small for their fingerprints, in the order of the scan. The bytes behind are those of the file past
+-- those that are too small for their fingerprints, in the order of the scan. The unread bytes are those of the file past
 -- its row's offset; of a file that is shorter than that, all, since it is to be read anew (Filebeat reference, filestream
 -- input and its registry).
 use Rattle.std.specs.Prelude.{ℕ, ◌-◌, nat_lt, Bool, false, if◌then◌else◌, is_some, List, [], ◌∷◌, ◌++◌, flat_map, map, Option, None, Some}
@@ -21,7 +21,7 @@ state_at offset size = if nat_lt size offset then Shorter else Present
 abbrev pub behind_at : ℕ → ℕ → ℕ
 behind_at offset size = if nat_lt size offset then size else size - offset
 
--- a row, and the file with its key where there is one
+-- a row, and the file with its key if there is one
 abbrev pub of_row : Row → Option Listed → Progress
 of_row row None = record {
   state = Gone;
@@ -42,7 +42,7 @@ of_row row (Some one) = record {
   behind = Some (behind_at row.offset one.size);
 }
 
--- a file without a row, with so many bytes behind
+-- a file without a row, with this many unread bytes
 abbrev pub without_row : State → Listed → Option ℕ → Progress
 without_row state one behind = record {
   state = state;
@@ -69,7 +69,7 @@ abbrev pub has_row : List Row → Option (List ℕ) → Bool
 has_row those None = false
 has_row those (Some key) = is_some (rows.find key those)
 
--- the file, where no row has its key
+-- the file, if no row has its key
 abbrev pub as_new : List Row → Listed → List Progress
 as_new those one = if has_row those one.key then [] else without_row New one (Some one.size) ∷ []
 

@@ -93,7 +93,7 @@ counts_family files =
     head_of Files ++ (count_line files Present ++ (count_line files Shorter ++ (count_line files Gone
     ++ (count_line files New ++ (count_line files Doubled ++ count_line files Small)))))
 
--- a family of one sample; none where there is no number
+-- a family of one sample; none if there is no number
 abbrev pub single_family : Family → Option ℕ → List ℕ
 single_family family None = []
 single_family family (Some value) = head_of family ++ (name_of family ++ (codes " " ++ (decimal value ++ codes "\n")))

@@ -1,5 +1,5 @@
 -- What two registry areas give a look (this project's profile): the rows of the area that is used, and its generation; no
--- row and no generation where the registry is empty.
+-- row and no generation if the registry is empty.
 use Rattle.std.specs.Prelude.{◌≡◌, ℕ, List, [], None, Some, Result, Ok, Err}
 use Rattle.registry_store.specs.Answer.{choice_of}
 use Rattle.registry_store.specs.Choice.{Choice, Chosen, Fresh, IsChoice, Refused}

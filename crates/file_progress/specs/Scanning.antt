@@ -1,4 +1,4 @@
--- What one scan told (Filebeat reference, filestream input, file identity; this project's profile): which files it listed,
+-- What one scan reported (Filebeat reference, filestream input, file identity; this project's profile): which files it listed,
 -- what asking these for their keys came to, and which of those with a key have it first.
 use Rattle.std.specs.Prelude.{◌≡◌, List, Option, Some}
 use Rattle.event_tree.specs.declared.input_rule.InputRule.{InputRule}
@@ -12,7 +12,7 @@ use Rattle.file_progress.specs.declared.scan.Scan.{Scan}
 
 pub record TellsScan (inputs : List InputRule) (told : FolderHistory) (scan : Scan) (after : Option FolderHistory) : Type 0 where
   pub all : List Listed
-  -- what the folder told behind the listings
+  -- what the folder reported after the listings
   pub listed : FolderHistory
   pub scans : ScansFiles inputs told all (Some listed)
   pub keyed : Keyed

@@ -15,7 +15,7 @@ IsTextOf Table overview text = IsTable overview text
 IsTextOf Json overview text = IsJson overview text
 IsTextOf Prometheus overview text = text ≡ prometheus_text overview
 
--- the sink was given the text of a look that shows what the objects told
+-- the sink was given the text of a look that shows what was known of the objects
 pub record Shows (format : Format) (committed : Option Moment) (told : Told) (before after : Option (List ℕ)) : Type 0 where
   pub overview : Overview
   pub looks : Looks told overview

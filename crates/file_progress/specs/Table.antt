@@ -1,5 +1,5 @@
--- The table (this project's profile): a head, a line for each file, those that are most bytes behind first, and two lines of
--- totals. A line has at most 100 columns, as far as its numbers leave room: of a longer path the end is shown, behind two
+-- The table (this project's profile): a head, a line for each file, those with the most unread bytes first, and two lines of
+-- totals. A line has at most 100 columns, as far as its numbers leave room: of a longer path the end is shown, after two
 -- dots and from a whole character on. Control characters are shown as `?`.
 use Rattle.std.specs.Prelude.{◌≡◌, ℕ, ◌-◌, ◌/◌, ◌==◌, ◌||◌, ◌&&◌, nat_le, nat_lt, Bool, if◌then◌else◌, List, [], ◌∷◌, ◌++◌, drop, length, map, codes, decimal, Option, None, Some}
 use Rattle.std.specs.List.{flat_map}
@@ -15,7 +15,7 @@ use Rattle.file_progress.specs.declared.progress.Progress.{Progress}
 use Rattle.file_progress.specs.declared.state.State.{State}
 use Rattle.file_progress.specs.declared.state.State.TheVariants.{Doubled, Gone, New, Present, Shorter, Small}
 
--- most bytes behind first
+-- most unread bytes first
 abbrev pub compare_behind : Progress → Progress → Ordering
 compare_behind one other = nat_cmp (behind_of other) (behind_of one)
 
@@ -35,7 +35,7 @@ abbrev pub from_character : List ℕ → List ℕ
 from_character [] = []
 from_character (byte ∷ bytes) = if continues_character byte then from_character bytes else byte ∷ bytes
 
--- of a path that is longer, as much of its end as fits behind two dots
+-- of a path that is longer, as much of its end as fits after two dots
 abbrev pub cut_path : ℕ → List ℕ → List ℕ
 cut_path columns path =
     if nat_le (length path) columns then path

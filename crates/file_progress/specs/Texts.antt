@@ -1,4 +1,4 @@
--- The names of the states of files as they are told (this project's profile).
+-- The names of the states of files as they are reported (this project's profile).
 use Rattle.std.specs.Prelude.{ℕ, List, codes}
 use Rattle.file_progress.specs.declared.state.State.{State}
 use Rattle.file_progress.specs.declared.state.State.TheVariants.{Doubled, Gone, New, Present, Shorter, Small}

@@ -21,7 +21,7 @@ pub(crate) fn by_key(alloc: Global, files: Vec<Listed>) -> Result<BTreeMap<Text,
     Ok(found)
 }
 
-/// Adds a file, where it has a key that no file before it has.
+/// Adds a file, if it has a key that no file before it has.
 fn add_file(alloc: Global, found: &mut BTreeMap<Text, Listed>, one: Listed) -> Result<(), NoMemory>
     ensures { OnOk result ((key : List ℕ) → get compare found.new key
         ≡ option_or (get compare found.old key) (file_of (one ∷ []) key)) }

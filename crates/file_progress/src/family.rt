@@ -3,7 +3,7 @@ ghost use Rattle.file_progress.specs.Prometheus.{help_of, kind_of, name_of, valu
 
 use crate::Progress;
 
-/// What is told to Prometheus; the first four of each file.
+/// What is reported to Prometheus; the first four of each file.
 #[derive(Clone, Copy)]
 pub(crate) enum Family {
     FileBehind,

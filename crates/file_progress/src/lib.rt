@@ -3,7 +3,7 @@
 //!
 //! The registry is read by the choice between its areas that the run itself makes, and the scan is the run's. Nothing is
 //! written: of both areas only reading calls are made, and each file that is opened for its key is closed again. What is
-//! told of each file, and each text, is a definition of `specs/`.
+//! reported of each file, and each text, is a definition of `specs/`.
 #![tactic(auto)]
 
 mod by_key;

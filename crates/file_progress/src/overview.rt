@@ -30,11 +30,11 @@ pub struct Outside<F, D, K> {
 #[derive(Drop)]
 pub struct Overview {
     pub files: Vec<Progress>,
-    /// That of the area that is used; `None` where the registry is empty.
+    /// That of the area that is used; `None` if the registry is empty.
     pub generation: Option<u64>,
     /// The moment of the look.
     pub moment: Moment,
-    /// When a registry area was last written, where that is known.
+    /// When a registry area was last written, if that is known.
     pub committed: Option<Moment>,
 }
 

@@ -8,11 +8,11 @@ use wire_base::{NoMemory, Text};
 /// One part of a line.
 #[derive(Clone, Copy)]
 pub(crate) enum Part<'a> {
-    /// Bytes that stand as they are.
+    /// Bytes as they are.
     Plain(&'a [u8]),
     /// A number in decimal.
     Number(u64),
-    /// A number at the right end of so many columns; `-` where there is none.
+    /// A number at the right end of this many columns; `-` if there is none.
     Right { number: Option<u64>, columns: usize },
     /// A name at the left end of so many columns.
     Left { name: &'a [u8], columns: usize },
@@ -20,7 +20,7 @@ pub(crate) enum Part<'a> {
     Label(&'a Text),
 }
 
-/// Puts the parts one behind the other.
+/// Puts the parts one after another.
 pub(crate) fn put_parts(page: &mut Vec<u8>, parts: &[Part<'_>]) -> Result<(), NoMemory>
     ensures { OnOk result (page.new.items ≡ page.old.items ++ flat_map part_bytes parts.now) }
 {

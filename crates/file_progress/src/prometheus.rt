@@ -37,7 +37,7 @@ fn seconds_of(moment: Option<Moment>) -> Option<u64>
     }
 }
 
-/// Puts the lines in front of a family.
+/// Puts the lines before a family.
 fn put_head(page: &mut Vec<u8>, family: Family) -> Result<(), NoMemory>
     ensures { OnOk result (page.new.items ≡ page.old.items ++ head_of family) }
 {
@@ -127,7 +127,7 @@ fn put_count(page: &mut Vec<u8>, files: &[Progress], state: State) -> Result<(),
     )
 }
 
-/// Puts a family of one sample, where there is a number.
+/// Puts a family of one sample, if there is a number.
 fn put_single(page: &mut Vec<u8>, family: Family, number: Option<u64>) -> Result<(), NoMemory>
     ensures { OnOk result (page.new.items ≡ page.old.items ++ single_family family number) }
 {

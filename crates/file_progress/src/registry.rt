@@ -19,7 +19,7 @@ const PAUSE_MS: u64 = 100;
 #[derive(Drop)]
 pub struct Registry {
     pub rows: Rows,
-    /// That of the area that is used; `None` where the registry is empty.
+    /// That of the area that is used; `None` if the registry is empty.
     pub generation: Option<u64>,
 }
 

@@ -30,7 +30,7 @@ pub enum Format {
     Prometheus,
 }
 
-/// Looks how far each file is, and prints that. `committed` is when a registry area was last written, where that is known.
+/// Finds how far each file is, and prints that. `committed` is when a registry area was last written, if that is known.
 ///
 /// It ends with `Done`, or with the status by which a run would refuse the same settings, areas or folder; then nothing is
 /// printed, but that a sink which fails may have taken a part.

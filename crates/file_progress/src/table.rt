@@ -13,7 +13,7 @@ use wire_base::{Moment, NoMemory, Text};
 /// So many columns a line has, as far as its numbers leave room.
 const COLUMNS: usize = 100;
 
-/// The table of a look: the files that are most bytes behind first.
+/// The table of a look: the files with the most unread bytes first.
 pub(crate) fn table_text(alloc: Global, overview: Overview) -> Result<Vec<u8>, NoMemory>
     ensures { IfOk result (λ text. IsTable overview text.items) }
 {
@@ -46,7 +46,7 @@ fn put_lines(alloc: Global, page: &mut Vec<u8>, lined: &[Progress]) -> Result<()
     Ok(())
 }
 
-/// Most bytes behind first.
+/// Most unread bytes first.
 fn compare_behind(one: &Progress, other: &Progress) -> Ordering
     ensures { result ≡ compare_behind one.now other.now }
 {

@@ -3,7 +3,7 @@ ghost use Rattle.file_progress.specs.Totals.{behind_in, behind_of, count_in, is_
 
 use crate::{Progress, State};
 
-/// The bytes that all files are behind, or 2^64 - 1.
+/// The unread bytes of all files, or 2^64 - 1.
 pub(crate) fn behind_in(files: &[Progress]) -> u64
     ensures { result ≡ behind_in files.now }
 {

@@ -13,7 +13,7 @@ pub struct Asked {
     pub format: Format,
 }
 
-/// What the arguments ask for; an error has the text to print, and where, or is that of want of memory.
+/// What the arguments ask for; an error has the text to print, and where, or is that of being out of memory.
 pub fn read_words(alloc: Global, words: &[String]) -> Result<Asked, Error> {
     let matches = command(alloc)?.try_get_matches_from(words)?;
     Ok(Asked {

@@ -14,6 +14,6 @@ pub enum Deed {
     BeginRemoved { forget: bool },
     /// Note Forget with this place.
     Forget(At),
-    /// The file has no row: let it go at once.
+    /// The file has no row: release it at once.
     Drop,
 }

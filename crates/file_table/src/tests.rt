@@ -54,7 +54,7 @@ pub(crate) fn at(place: u64) -> At {
     }
 }
 
-/// Tells the table one thing more; what that asked for.
+/// Takes one more step on the table; what that asked for.
 pub(crate) fn tell(
     alloc: Global,
     table: &mut FileTable,
@@ -108,7 +108,7 @@ fn open(table: &mut FileTable, slot: Slot, place: u64) {
     }
 }
 
-/// Tells the table a change of a listing.
+/// Takes a change of a listing into the table.
 fn change(alloc: Global, table: &mut FileTable, slot: Slot, step: Step) -> Result<Deed, Fail> {
     let path = Text::from_bytes(alloc, b"/a")?;
     let (change, scan, clean) = match step {

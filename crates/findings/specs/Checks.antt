@@ -29,7 +29,7 @@ use Rattle.findings.specs.declared.settings.TheConstants.{LIMIT}
 use Rattle.findings.specs.declared.system.System.{Ghosts as SystemGhosts}
 use Rattle.findings.specs.declared.trial.Trial.{Trial}
 
--- what folder, system and hosts told as something began, and folder and hosts as it ended, with the folder's faults
+-- what was known of folder, system and hosts as something began, and of folder and hosts as it ended, with the folder's faults
 pub record Told : Type 0 where
   pub folder : Option FolderHistory
   pub folder_after : Option FolderHistory
@@ -62,7 +62,7 @@ pub record Sees (asked : Asked) (told : Told) (settings : Settings) (seen : Seen
   pub write_refusal : IfSome told.system (λ system. seen.write_refusal ≡ system.write_refusal asked.data)
   pub trials : TriesIf asked.connect told.tried settings.output.hosts seen.trials.items told.tried_after
 
--- the settings that all bytes of the source spell, as far as it tells them
+-- the settings that all bytes of the source spell, as far as these are known
 abbrev pub IsNamed : Option (List ℕ) → Settings → Type 0
 IsNamed left settings = IfSome left (λ bytes. AreSettingsOf (take LIMIT bytes) settings)
 
@@ -106,7 +106,7 @@ pub record Count : Type 0 where
   pub before : ℕ
   pub now : ℕ
 
--- by the counts of source and sink; out of memory alone needs no cause, and no other status comes
+-- by the counts of source and sink; only out of memory needs no cause, and no other status comes
 abbrev pub IsRefusal : Option (List ℕ) → Told → Count → Count → Status → Type 0
 IsRefusal left told source out (SettingsFault fault) = IfSome left (λ bytes. IsFirstFault (take LIMIT bytes) fault)
 IsRefusal left told source out SourceFault = Rose source.before source.now

@@ -13,7 +13,7 @@ code_of Unreadable = 6
 code_of Unreachable = 7
 code_of (Refused status) = status_code status
 
--- all that was seen is told
+-- all that was seen is reported
 abbrev pub IsShown : Ending → Type 0
 IsShown Well = Unit {0}
 IsShown Unreadable = Unit {0}

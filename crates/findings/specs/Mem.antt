@@ -1,4 +1,4 @@
--- What a system in memory tells (this project's profile): what its tables have.
+-- What is known of a system in memory (this project's profile): what its tables have.
 use Rattle.std.specs.Prelude.{List, [], Option, None, Some, Vec}
 use Rattle.std.specs.BTreeMap.{get}
 use Rattle.std.specs.declared.alloc.Global.{Global}

@@ -1,4 +1,4 @@
--- What one scan told a check (Filebeat reference, filestream input, file identity; this project's profile): which files it
+-- What one scan reported to a check (Filebeat reference, filestream input, file identity; this project's profile): which files it
 -- listed, and which of these have too few bytes for a fingerprint or the key of another.
 use Rattle.std.specs.Prelude.{◌≡◌, ◌⊎◌, ℕ, List, [], slice_get, Option, None, Some, Vec, true, false}
 use Rattle.std.specs.declared.alloc.Global.{Global}
@@ -72,7 +72,7 @@ IsScanEnd (TooMany Files path) = Unit {0}
 IsScanEnd (NoNative path) = Unit {0}
 IsScanEnd _ = ⊥
 
--- ---- what it told
+-- ---- what it reported
 
 -- every file was asked for its key
 pub record AsksAll (inputs : List InputRule) (told : FolderHistory) (listed : List Listed) (marks : Marks) (after : Option FolderHistory) : Type 0 where
@@ -83,7 +83,7 @@ pub record AsksAll (inputs : List InputRule) (told : FolderHistory) (listed : Li
   pub small : marks.small.items ≡ keyed.small.items
   pub whole : marks.failed ≡ false
 
--- an opening or a read failed, and so no file is told
+-- an opening or a read failed, and so no file is reported
 pub record AsksFewer (inputs : List InputRule) (told : FolderHistory) (listed : List Listed) (marks : Marks) (after : Option FolderHistory) : Type 0 where
   pub asks : AsksSome inputs told listed after
   pub doubled : marks.doubled.items ≡ []

@@ -1,4 +1,4 @@
--- What a check sees (this project's profile): of each glob how many of the listed files it finds and what the system tells of
+-- What a check sees (this project's profile): of each glob how many of the listed files it finds and what the system reports of
 -- it, of each listed file whether it can be read, and of each host whether it connects.
 use Rattle.std.specs.Prelude.{◌≡◌, ◌⊎◌, ℕ, List, [], ◌∷◌, ◌++◌, length, map, Option, None, Some, IfSome, Vec, Bool, true, false, if◌then◌else◌}
 use Rattle.std.specs.List.{flat_map}
@@ -24,12 +24,12 @@ use Rattle.findings.specs.declared.seen.GlobSeen.{GlobSeen}
 use Rattle.findings.specs.declared.seen.Unread.{Unread}
 use Rattle.findings.specs.declared.trial.Trial.{Trial}
 
--- how many files the glob finds; nothing where a folder could not be listed
+-- how many files the glob finds; nothing if a folder could not be listed
 abbrev pub IsCount : GlobAsked → Option (Vec Listed Global) → Option ℕ → Type 0
 IsCount asked None files = files ≡ None
 IsCount asked (Some listed) files = (count : ℕ) × (files ≡ Some count) × Counts asked listed.items count
 
--- what the system tells of a glob
+-- what the system reports of a glob
 pub record IsToldOf (told : SystemTold) (one : GlobSeen) : Type 0 where
   pub root : one.root ≡ told.place (root_of one.asked.glob)
   pub spelled : one.spelled ≡ told.place one.asked.text
@@ -49,7 +49,7 @@ abbrev pub unread_by : List ℕ → Bool → Option (List ℕ) → List Unread
 unread_by path there None = []
 unread_by path there (Some refusal) = if there then record { path = path; refusal = refusal } ∷ [] else []
 
--- the file, where it is there and cannot be read
+-- the file, if it is there and cannot be read
 abbrev pub unread_of : SystemTold → Listed → List Unread
 unread_of told one = unread_by one.path (is_there (told.place one.path)) (told.refusal one.path)
 
@@ -79,7 +79,7 @@ pub record FindsFiles (system : Option SystemTold) (inputs : List InputRule) (to
   pub globs : Each (SeesGlob system (Some listed)) (asked_globs 0 inputs) files.globs.items
   pub sees : SeesListed system inputs history listed.items files after
 
--- a folder could not be listed, and so no file is told
+-- a folder could not be listed, and so no file is reported
 pub record FindsNone (system : Option SystemTold) (inputs : List InputRule) (told : FolderHistory) (files : FilesSeen) (after : Option FolderHistory) : Type 0 where
   pub ends : EndsAs inputs told Failed after
   pub globs : Each (SeesGlob system None) (asked_globs 0 inputs) files.globs.items

@@ -1,4 +1,4 @@
--- What a system that tells answers (this project's profile): always the same of one path, since a check changes nothing.
+-- What a known system answers (this project's profile): always the same of one path, since a check changes nothing.
 use Rattle.std.specs.Prelude.{ℕ, List, Option}
 use Rattle.findings.specs.declared.place.Place.{Place}
 use Rattle.findings.specs.declared.skipped.Skipped.{Skipped}

@@ -3,7 +3,7 @@ use beat_config::SettingsError;
 use std::alloc::{AllocError, Global};
 use wire_base::Text;
 
-/// Where the fault of the settings can be found, as `FILE:LINE` or `FILE:LINE: WHY`, and a line feed; nothing where that is
+/// Where the fault of the settings can be found, as `FILE:LINE` or `FILE:LINE: WHY`, and a line feed; nothing if that is
 /// not known.
 pub(crate) fn place_text(
     alloc: Global,

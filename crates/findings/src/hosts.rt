@@ -8,7 +8,7 @@ use wire_base::{Host, NoMemory, Text};
 
 /// The hosts, each of which is tried by a connection that is made and closed again, without a byte.
 pub trait Hosts {
-    /// The connections that were tried so far, in their order, if they are told.
+    /// The connections that were tried so far, in their order, if they are known.
     ghost tried: { Self → Option (List Trial) };
 
     /// Makes a connection and closes it. Why none could be made, in the system's words; `None` if one was.

@@ -1,7 +1,7 @@
 //! What there is to say before a run: of the settings, of the files that they name, of what a run would pass over, and of
 //! the hosts.
 //!
-//! What the traits of `outside` do not tell is asked of two traits of this crate, `System` and `Hosts`. A check first
+//! What the traits of `outside` do not cover is asked of two traits of this crate, `System` and `Hosts`. A check first
 //! gathers what it sees; the findings, the text and the end of the check are definitions of `specs/` over that. It writes
 //! only to the two sinks: each file that it opens for its key is closed again, and no call of `System` or `Hosts` can
 //! write.

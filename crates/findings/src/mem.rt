@@ -8,7 +8,7 @@ use std::alloc::Global;
 use std::collections::BTreeMap;
 use wire_base::{Host, NoMemory, Text};
 
-/// A system in memory, all told.
+/// A system in memory, all of it known.
 #[derive(Drop)]
 pub struct MemSystem {
     /// What has which path; nothing has any other.
@@ -93,7 +93,7 @@ fn copy_of(alloc: Global, one: &Skipped) -> Result<Skipped, NoMemory>
     }
 }
 
-/// Hosts in memory, all told.
+/// Hosts in memory, all of them known.
 #[derive(Drop)]
 pub struct MemHosts {
     /// Why which port does not connect; each other does.

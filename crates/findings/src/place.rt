@@ -3,6 +3,6 @@
 pub enum Place {
     Nothing,
     Folder,
-    /// A file, or what the system does not tell.
+    /// A file, or what the system does not report.
     Other,
 }

@@ -47,7 +47,7 @@ pub struct Marks {
     pub small: Vec<Listed>,
     /// Those with the key of a file before them.
     pub doubled: Vec<Listed>,
-    /// Whether a file could not be read; then none is told.
+    /// Whether a file could not be read; then none is reported.
     pub failed: bool,
 }
 

@@ -8,7 +8,7 @@ use wire_base::{NoMemory, Text};
 
 /// What the system answers beside what is in files. No call changes anything.
 pub trait System {
-    /// What it answers, if it tells that.
+    /// What it answers, if that is known.
     ghost told: { Self → Option SystemTold };
 
     fn place(&self, path: &Text) -> Place

@@ -1,4 +1,4 @@
--- What a call adds to a talk and to a sink, where they are told (this project's profile).
+-- What a call adds to a talk and to a sink, if they are known (this project's profile).
 use Rattle.std.specs.Prelude.{◌≡◌, ℕ, suc, Bool, List, [], ◌∷◌, ◌++◌, Option, Some, None}
 use Rattle.outside.specs.Talks.{Talk}
 use Rattle.wire_base.specs.declared.talk.Piece.{Piece}

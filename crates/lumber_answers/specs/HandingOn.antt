@@ -5,7 +5,7 @@ use Rattle.lumber_answers.specs.Changes.{Sends, SinkTakes}
 use Rattle.lumber_answers.specs.Laying.{WritesFront}
 use Rattle.lumber_answers.specs.declared.outgoing.Outgoing.{Outgoing}
 
--- what the link and the sink tell
+-- what is known of the link and the sink
 pub record Told : Type 0 where
   pub told : Option Talk
   pub written : Option (List ℕ)

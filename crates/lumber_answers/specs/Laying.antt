@@ -1,4 +1,4 @@
--- Lines that are laid one behind the other and written together (this project's profile).
+-- Lines that are laid one after another and written together (this project's profile).
 use Rattle.std.specs.Prelude.{◌≡◌, ℕ, List, ◌++◌, take, Option}
 use Rattle.lumber_answers.specs.Changes.{SinkTakes}
 

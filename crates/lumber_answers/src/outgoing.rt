@@ -14,10 +14,10 @@ use outside::{Failed, Link, Sink};
 use std::alloc::{AllocError, Global};
 use wire_base::NoMemory;
 
-/// How many bytes of lines are laid one behind the other, so that one writing carries many.
+/// How many bytes of lines are laid one after another, so that one write carries many.
 const LAID_BYTES: usize = 65_536;
 
-/// How many bytes of acknowledgements are laid, so that one sending carries many.
+/// How many bytes of acknowledgements are laid, so that one send carries many.
 const ANSWER_BYTES: usize = 6_144;
 
 /// The bytes of an acknowledgement.
@@ -42,7 +42,7 @@ impl Outgoing {
         })
     }
 
-    /// Lays the line of a payload. Lines for which there is no room beside it are written before.
+    /// Lays the line of a payload. Lines that leave it no room are written before.
     pub fn lay_line<S: Sink>(&mut self, out: &mut S, payload: &[u8]) -> Result<(), WriteFault>
         ensures laid { OnOk result (WritesSome (S.written out.old)
             (self.old.lines.items ++ line_of payload.now) self.new.lines.items (S.written out.new)) }
@@ -95,7 +95,7 @@ impl Outgoing {
         Ok(())
     }
 
-    /// Lays the acknowledgement of this number, which goes out behind the lines that are laid.
+    /// Lays the acknowledgement of this number, which goes out after the lines that are laid.
     pub fn lay_answer(&mut self, number: u32) -> Result<(), AllocError>
         ensures laid { OnOk result (self.new.answers.items ≡ self.old.answers.items ++ frame_bytes (Ack number)) }
         ensures kept { OnErr result (self.new.answers.items ≡ self.old.answers.items) }

@@ -4,7 +4,7 @@ ghost use Rattle.lumber_answers.specs.Changes.{Sends, SinkTakes};
 
 use outside::{Failed, Link, Sink};
 
-/// Writes all of the bytes, or a front of them where the sink fails. Takes no memory.
+/// Writes all of the bytes, or a front of them if the sink fails. Takes no memory.
 pub(crate) fn write_all<S: Sink>(out: &mut S, bytes: &[u8]) -> Result<(), Failed>
     ensures written { OnOk result (SinkTakes (S.written out.old) bytes.now (S.written out.new)) }
     ensures front { OnErr result ((count : ℕ) ×
@@ -20,7 +20,7 @@ pub(crate) fn write_all<S: Sink>(out: &mut S, bytes: &[u8]) -> Result<(), Failed
     Ok(())
 }
 
-/// Sends all of the bytes, or a front of them where a sending fails. Takes no memory.
+/// Sends all of the bytes, or a front of them if a send fails. Takes no memory.
 pub(crate) fn send_all<L: Link>(link: &mut L, bytes: &[u8]) -> Result<(), Failed>
     ensures sent { OnOk result (Sends (L.told link.old) bytes.now (L.told link.new)) }
     ensures front { OnErr result ((count : ℕ) ×

@@ -1,4 +1,4 @@
--- What stands in front of bytes that were received (Lumberjack v2): the frame that is owed, a place at which reading stops,
+-- What bytes that were received begin with (Lumberjack v2): the frame that is owed, a place at which reading stops,
 -- or neither yet.
 use Rattle.std.specs.Prelude.{◌≤◌, ℕ, List, length}
 use Rattle.lumber_frame.specs.Frame.{BeginsWithFrame, frame_of}

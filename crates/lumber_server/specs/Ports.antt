@@ -1,4 +1,4 @@
--- What a port tells: the links that were finished, in order (this project's profile).
+-- What is known of a port: the links that were finished, in order (this project's profile).
 use Rattle.std.specs.Prelude.{◌≡◌, ℕ, List, [], ◌∷◌, ◌++◌, Option, Some, None}
 use Rattle.outside.specs.Talks.{Talk, no_talk}
 use Rattle.lumber_server.specs.declared.port.Accept.{Accept}
@@ -27,12 +27,12 @@ IsFailed (Got link) = ⊥
 IsFailed NotYet = ⊥
 IsFailed Failed = Unit {0}
 
--- a link of a port that tells begins with no talk; one of a port that tells nothing tells nothing
+-- a link of a known port begins with no talk; if nothing is known of the port, nothing is known of the link
 abbrev pub TellsAccepting : {L : Type 0} → (L → Option Talk) → Option (List Finished) → Accept L → Option (List Finished) → Type 0
 TellsAccepting link_told None accepted after = (after ≡ None) × IfGot accepted (λ link. link_told link ≡ None)
 TellsAccepting link_told (Some links) accepted after = (after ≡ Some links) × IfGot accepted (λ link. link_told link ≡ Some no_talk)
 
--- a link that is finished stands in the list with its talk; of one that tells nothing nothing does
+-- a link that is finished is in the list with its talk; it is not if nothing is known of it
 abbrev pub TellsFinishing : Option (List Finished) → Option Talk → ℕ → ℕ → ℕ → Option (List Finished) → Type 0
 TellsFinishing None talk faults idles failed_sends after = after ≡ None
 TellsFinishing (Some links) None faults idles failed_sends after = after ≡ Some links

@@ -1,6 +1,6 @@
 -- The receiver's promise (Lumberjack v2; this project's profile): what was written and sent is a front of the lines and of
--- the answers of what was received, and a byte of an acknowledgement was sent only where the lines of all frames up to the
--- one that it acknowledges stand in the sink whole.
+-- the answers of what was received, and a byte of an acknowledgement was sent only if the lines of all frames up to the
+-- one that it acknowledges are in the sink whole.
 use Rattle.std.specs.Prelude.{◌≡◌, ℕ, List, ◌++◌, take}
 use Rattle.lumber_frame.specs.declared.frame.Frame.{Frame}
 use Rattle.lumber_server.specs.Received.{AreReceived, BeginsWithFrames}
@@ -20,7 +20,7 @@ pub record KeepsPromise (e : Exchange) : Type 0 where
   -- a front of their lines was written
   pub written_count : ℕ
   pub written : e.written ≡ take written_count (lines_of frames)
-  -- those in front, all of whose lines were written
+  -- the first ones, all of whose lines were written
   pub confirmed : List Frame
   pub later : List Frame
   pub parts : frames ≡ confirmed ++ later

@@ -8,7 +8,7 @@ use Rattle.lumber_frame.specs.declared.frame.Frame.TheVariants.{Window, Json, Ac
 use Rattle.lumber_frame.specs.Frame.{IsFrame, BeginsWithFrame, frame_bytes}
 use Rattle.lumber_frame.specs.Fault.{IsBadAt}
 
--- where a reading stands: how many JSON frames the last window has, and how many of them were read
+-- where a reading is: how many JSON frames the last window has, and how many of them were read
 pub record Standing : Type 0 where
   pub count : ℕ
   pub taken : ℕ
@@ -17,7 +17,7 @@ pub record Standing : Type 0 where
 abbrev pub at_first : Standing
 at_first = record { count = 0; taken = 0 }
 
--- the frame is the one owed: the next of the window, or a window frame where the window is full
+-- the frame is the one owed: the next of the window, or a window frame if the window is full
 abbrev pub IsOwed : Standing → Frame → Type 0
 IsOwed here (Window count) = here.taken ≡ here.count
 IsOwed here (Json sequence payload) = (here.taken < here.count) × (sequence ≡ suc here.taken)
@@ -32,7 +32,7 @@ abbrev pub behind_frames : Standing → List Frame → Standing
 behind_frames here [] = here
 behind_frames here (frame ∷ frames) = behind_frames (behind_frame here frame) frames
 
--- each frame is the one owed where it stands
+-- each frame is the one owed where it is
 abbrev pub AreOwed : Standing → List Frame → Type 0
 AreOwed here [] = Unit {0}
 AreOwed here (frame ∷ frames) = IsOwed here frame × AreOwed (behind_frame here frame) frames

@@ -6,7 +6,7 @@ use Rattle.outside.specs.declared.link.Recv.TheVariants.{Got, Closed, NotYet, Fa
 use Rattle.wire_base.specs.declared.talk.Piece.TheVariants.{In}
 use Rattle.lumber_answers.specs.Changes.{TalkGoesOn}
 
--- the bytes that came stand behind those that were there, and the talk went on by them
+-- the bytes that came are after those that were there, and the talk went on by them
 pub record IsPieceHeard (talk : Option Talk) (unread more : List ℕ) (after : Option Talk) : Type 0 where
   pub piece : List ℕ
   pub behind : more ≡ unread ++ piece

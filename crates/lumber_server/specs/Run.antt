@@ -35,7 +35,7 @@ pub record IsServedWell (link : ServedLink) : Type 0 where
   pub stop : StopsAs (in_bytes link.finished.talk.pieces) link.served
   pub caused : IsEndCaused link.finished.faults link.finished.failed_sends link.served
 
--- the end of one link alone
+-- the end of only one link
 abbrev pub IsOneLinksEnd : Served → Type 0
 IsOneLinksEnd Ended = Unit {0}
 IsOneLinksEnd SendFault = Unit {0}
@@ -54,7 +54,7 @@ abbrev pub questions_for : List ServedLink → ℕ
 questions_for [] = 0
 questions_for (link ∷ links) = (2 + received_pieces link.finished.talk.pieces + link.finished.idles) + questions_for links
 
--- what the port, the sink and the bell tell before a run and behind it
+-- what is known of the port, the sink and the bell before a run and after it
 pub record RunCall : Type 0 where
   pub finished_before : Option (List Finished)
   pub finished_after : Option (List Finished)
@@ -65,7 +65,7 @@ pub record RunCall : Type 0 where
   pub idles_before : ℕ
   pub idles_after : ℕ
 
--- the links that were served, one after the other; behind them the bell may have been asked so many times more
+-- the links that were served, one after the other; after them the bell may have been asked so many times more
 pub record ServesLinks (more : ℕ) (call : RunCall) (links : List ServedLink) : Type 0 where
   pub each : AllByRecursion IsServedWell links
   pub finished : PortFinishes call.finished_before links call.finished_after

@@ -11,7 +11,7 @@ use Rattle.lumber_server.specs.declared.served.Served.{Served}
 use Rattle.lumber_server.specs.declared.served.Served.TheVariants.{Ended, SendFault, OutFault, Bad, Stopped, NoMemory}
 use Rattle.lumber_server.specs.Ends.{up_to_end}
 
--- what the link, the sink and the bell tell before a serving and behind it
+-- what is known of the link, the sink and the bell before a serving and after it
 pub record ServeCall : Type 0 where
   pub talk_before : Option Talk
   pub talk_after : Option Talk
@@ -26,7 +26,7 @@ pub record ServeCall : Type 0 where
 abbrev pub exchange_of : List Piece → List ℕ → Exchange
 exchange_of pieces bytes = record { received = in_bytes pieces; sent = out_bytes pieces; written = bytes }
 
--- where the peer ended, was refused or the bell rang, all of what was received is written and answered
+-- if the peer ended, was refused or the bell rang, all of what was received is written and answered
 abbrev pub IsWholeAt : Served → Exchange → Type 0
 IsWholeAt Ended e = IsWhole e
 IsWholeAt SendFault e = Unit {0}
@@ -35,7 +35,7 @@ IsWholeAt (Bad place) e = IsWhole e
 IsWholeAt Stopped e = IsWhole e
 IsWholeAt NoMemory e = Unit {0}
 
--- a place is told where reading stops there, and where the peer ended or the bell rang it stops nowhere
+-- a place is reported if reading stops there, and if the peer ended or the bell rang it stops nowhere
 abbrev pub StopsAs : List ℕ → Served → Type 0
 StopsAs received Ended = (place : ℕ) → ¬ (StopsAt received place)
 StopsAs received SendFault = Unit {0}

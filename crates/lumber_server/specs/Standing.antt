@@ -13,7 +13,7 @@ use Rattle.lumber_server.specs.Received.{BeginsWithFrames, Standing, at_first, b
 use Rattle.lumber_server.specs.Written.{answers_of, lines_of}
 use Rattle.lumber_server.specs.declared.transfer.Transfer.{Transfer}
 
--- the bytes that were received and not read, where the reading stands, the lines and the answers that are laid, and how
+-- the bytes that were received and not read, where the reading is, the lines and the answers that are laid, and how
 -- many bytes were read, up to the end of the type
 pub record State : Type 0 where
   pub unread : List ℕ
@@ -74,7 +74,7 @@ pub record GoesOn (before after : Told) (old new : State) : Type 0 where
   pub none_received : received_pieces pieces ≡ 0
   pub stands : (e : Exchange) → StandsFor old e → StandsFor new (exchange_then e pieces bytes)
 
--- and where it goes on no more, the promise is kept
+-- and if it goes on no more, the promise is kept
 pub record Fails (before after : Told) (old : State) : Type 0 where
   pub pieces : List Piece
   pub bytes : List ℕ

@@ -36,7 +36,7 @@ abbrev pub IsTakenNext : Told → Told → Transfer → Transfer → List ℕ �
 IsTakenNext before after old new bytes None = TakesNone before after old new bytes
 IsTakenNext before after old new bytes (Some used) = TakesNext before after old new bytes used
 
--- all whole frames in front were taken, and so many bytes are left
+-- all whole first frames were taken, and this many bytes are left
 pub record TakesFrames (before after : Told) (old new : Transfer) (bytes : List ℕ) (left : ℕ) : Type 0 where
   pub within : left ≤ length bytes
   pub goes_on : GoesOn before after (state_of old bytes) (state_of new (drop (length bytes - left) bytes))

@@ -1,4 +1,4 @@
--- How the record of a visit in memory changes, and what a port in memory tells of its visits (this project's profile).
+-- How the record of a visit in memory changes, and what is known of a port's visits in memory (this project's profile).
 use Rattle.std.specs.Prelude.{◌≡◌, ℕ, ◌≤◌, true, false, List, [], ◌∷◌, ◌++◌}
 use Rattle.wire_base.specs.declared.talk.Piece.TheVariants.{Out, In}
 use Rattle.outside.specs.Counts.{next_count}

@@ -6,7 +6,7 @@ use Rattle.lumber_server.specs.Run.{AreEarlierEnded, IsOneLinksEnd, RunCall, Ser
 use Rattle.lumber_server.specs.declared.status.SinkStatus.{SinkStatus}
 use Rattle.lumber_server.specs.declared.status.SinkStatus.TheVariants.{Done, Usage}
 
--- what a link tells that was accepted by a port that tells this
+-- what is known of a link that was accepted by a port of which this is known
 abbrev pub LinkBegins : Option (List Finished) → Option Talk → Type 0
 LinkBegins None talk = talk ≡ None
 LinkBegins (Some links) talk = talk ≡ Some no_talk
@@ -17,7 +17,7 @@ pub record ServesOne (call : RunCall) : Type 0 where
   pub serves : ServesLinks 0 call (link ∷ [])
   pub end : IsOneLinksEnd link.served
 
--- the run ends, behind one link more or none
+-- the run ends, after one more link or none
 pub record EndsRun (call : RunCall) (status : SinkStatus) : Type 0 where
   pub links : List ServedLink
   pub serves : ServesLinks 1 call links

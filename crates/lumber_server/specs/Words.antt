@@ -21,12 +21,12 @@ is_name_byte byte =
 abbrev pub is_name : List ℕ → Bool
 is_name text = nat_lt 0 (length text) && (nat_le (length text) 253 && list_all is_name_byte text)
 
--- the number that decimal digits without a sign or a leading zero stand for, from 1 to `most`, where they are such digits
+-- the number that decimal digits without a sign or a leading zero stand for, from 1 to `most`, if they are such digits
 abbrev pub IsNumberTo : ℕ → List ℕ → Option ℕ → Type 0
 IsNumberTo most digits None = ¬ (IsDecimal digits × (1 ≤ value_of digits) × (value_of digits ≤ most))
 IsNumberTo most digits (Some number) = IsDecimal digits × (1 ≤ number) × (number ≤ most) × (number ≡ value_of digits)
 
--- the port behind a name and its colon
+-- the port after a name and its colon
 abbrev pub IsPortBehind : List ℕ → Option ℕ → Type 0
 IsPortBehind [] port = port ≡ None
 IsPortBehind (colon ∷ digits) port = IsNumberTo 65535 digits port
@@ -35,7 +35,7 @@ abbrev pub named_host : List ℕ → Option ℕ → Option Host
 named_host name None = None
 named_host name (Some port) = if is_name name then Some (record { name = name; port = port }) else None
 
--- how many bytes stand before the first colon
+-- how many bytes are before the first colon
 abbrev pub name_length : List ℕ → ℕ
 name_length text = prefix_len (λ byte. not (byte == 58)) text
 
@@ -60,12 +60,12 @@ abbrev pub IsAskedBy : List ℕ → List ℕ → List ℕ → Option Asked → T
 IsAskedBy place file count asked =
     (host : Option Host) × (links : Option ℕ) × IsHost place host × IsNumberTo most_links count links × (asked ≡ asked_by file host links)
 
--- and nothing where the marks are not the command's
+-- and nothing if the marks are not the command's
 abbrev pub IsAskedWhere : Bool → List ℕ → List ℕ → List ℕ → Option Asked → Type 0
 IsAskedWhere true place file count asked = IsAskedBy place file count asked
 IsAskedWhere false place file count asked = asked ≡ None
 
--- what the arguments ask for; nothing where they are not the command's
+-- what the arguments ask for; nothing if they are not the command's
 abbrev pub IsAskedOf : List (List ℕ) → Option Asked → Type 0
 IsAskedOf (listen ∷ place ∷ out ∷ file ∷ links ∷ count ∷ []) asked = IsAskedWhere (are_marks listen out file links) place file count asked
 IsAskedOf _ asked = asked ≡ None

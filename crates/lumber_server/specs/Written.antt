@@ -1,5 +1,5 @@
 -- What is written and what is answered of frames that are received (Lumberjack v2; this project's profile). Each payload is
--- one line. A frame is acknowledged where its number is a multiple of 64 or the count of its window.
+-- one line. A frame is acknowledged if its number is a multiple of 64 or the count of its window.
 use Rattle.std.specs.Prelude.{◌==◌, ◌%◌, ◌||◌, ℕ, Bool, List, [], ◌∷◌, ◌++◌, if◌then◌else◌}
 use Rattle.std.specs.List.{flat_map}
 use Rattle.lumber_frame.specs.declared.frame.Frame.{Frame}
@@ -17,7 +17,7 @@ lines_of_frame (Ack sequence) = []
 abbrev pub lines_of : List Frame → List ℕ
 lines_of frames = flat_map lines_of_frame frames
 
--- the acknowledgement of a frame that was owed where the reading stood, where there is one
+-- the acknowledgement of a frame that was owed where the reading was, if there is one
 abbrev pub answer_of : Standing → Frame → List ℕ
 answer_of here (Window count) = []
 answer_of here (Json sequence payload) =

@@ -15,7 +15,7 @@ const RECEIVED_BYTES: usize = 65_536;
 #[derive(Drop)]
 pub(crate) struct Incoming {
     buffer: Vec<u8>,
-    /// How many bytes in front of the buffer were received.
+    /// How many bytes in the front of the buffer were received.
     filled: usize,
 }
 
@@ -45,7 +45,7 @@ impl Incoming {
         &self.buffer[..self.filled]
     }
 
-    /// Receives once, behind the bytes that are there.
+    /// Receives once, after the bytes that are there.
     pub(crate) fn receive<L: Link>(&mut self, link: &mut L) -> Result<Recv, NoMemory>
         ensures heard { IfOk result (λ heard. IsHeard (L.told link.old) self.old heard self.new (L.told link.new)) }
         ensures none_heard { OnErr result (L.told link.new ≡ L.told link.old) }
@@ -66,7 +66,7 @@ impl Incoming {
         Ok(heard)
     }
 
-    /// Forgets so many bytes in front.
+    /// Forgets this many first bytes.
     pub(crate) fn forget(&mut self, count: usize)
         requires { count ≤ length self.old }
         ensures { self.new ≡ drop count self.old }
@@ -76,7 +76,7 @@ impl Incoming {
     }
 }
 
-/// Makes room for at least one byte behind so many. A buffer that is full doubles.
+/// Makes room for at least one byte after these. A buffer that is full doubles.
 fn make_room(buffer: &mut Vec<u8>, filled: usize) -> Result<(), NoMemory>
     requires { filled ≤ vec_len buffer.old }
     ensures room { OnOk result (filled < vec_len buffer.new) }
@@ -94,7 +94,7 @@ fn make_room(buffer: &mut Vec<u8>, filled: usize) -> Result<(), NoMemory>
     Ok(())
 }
 
-/// Receives behind so many bytes of the buffer.
+/// Receives after this many bytes of the buffer.
 fn receive_behind<L: Link>(buffer: &mut [u8], filled: usize, link: &mut L) -> Recv
     requires { filled < length buffer.old }
     ensures within { IsWithin (length buffer.old - filled) result }

@@ -8,7 +8,7 @@
 //!
 //! Small lines are written together. A frame is held until it is whole, so memory is that of the longest frame of a link,
 //! in a buffer that begins with 64 KiB and doubles, and 70 KiB for lines and acknowledgements; no clause says so. No file
-//! and no socket is touched here: `Port` is where peers come from, and `MemPort` meets it in memory and tells all.
+//! and no socket is touched here: `Port` is where peers come from, and `MemPort` meets it in memory, with all known.
 #![tactic(auto)]
 
 mod incoming;

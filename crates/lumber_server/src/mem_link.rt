@@ -11,13 +11,13 @@ use wire_base::{Blob, NoMemory};
 pub struct MemVisit {
     /// What is received, piece by piece.
     pub pieces: Vec<Blob>,
-    /// Whether the peer closes the connection behind its last piece; else nothing comes any more.
+    /// Whether the peer closes the connection after its last piece; else nothing comes any more.
     pub closes: bool,
     /// The number of the send that fails, counted from 0.
     pub failing_send: Option<u64>,
 }
 
-/// A connection to a peer in memory, all told. It is let go by `MemPort::finish` alone.
+/// A connection to a peer in memory, all of it known. Only `MemPort::finish` releases it.
 #[derive(Debug)]
 pub struct VisitLink {
     alloc: Global,
@@ -64,7 +64,7 @@ impl VisitLink {
         })
     }
 
-    /// What is left of a link that is finished.
+    /// The rest of a link that is finished.
     pub(crate) fn into_end(self) -> VisitEnd
         ensures { result.history ≡ self.history }
     {
@@ -90,7 +90,7 @@ impl VisitLink {
         self.failing_send == Some(number)
     }
 
-    /// Copies bytes of the next piece into the front of `into`; how many, 0 where no piece is left.
+    /// Copies bytes of the next piece into the front of `into`; how many, 0 if no piece is left.
     fn give(&mut self, into: &mut [u8]) -> usize
         ensures within { result ≤ length into.old }
         ensures history { self.new.history ≡ self.old.history }

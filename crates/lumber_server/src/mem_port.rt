@@ -6,7 +6,7 @@ use crate::visit_chain::FinishedVisits;
 use std::alloc::Global;
 use wire_base::{NoMemory, Piece};
 
-/// Peers in memory that come one after the other, all told.
+/// Peers in memory that come one after the other, all of it known.
 #[derive(Debug, Drop)]
 pub struct MemPort {
     alloc: Global,
@@ -44,7 +44,7 @@ impl MemPort {
         })
     }
 
-    /// What was sent and received over the link that was finished last; nothing where none was.
+    /// What was sent and received over the link that was finished last; nothing if none was.
     pub fn last_talk(&self) -> &[Piece] {
         self.finished.last_talk()
     }

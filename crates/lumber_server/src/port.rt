@@ -19,7 +19,7 @@ pub enum Accept<L> {
 pub trait Port {
     type Link: Link;
 
-    /// The links that were finished, in their order, where they are told.
+    /// The links that were finished, in their order, if they are known.
     ghost finished: { Self → Option (List Finished) };
 
     /// How often it has failed.

@@ -7,10 +7,10 @@ ghost use Rattle.lumber_server.specs.Written.{is_answered};
 use lumber_frame::{FrameRead, FrameView, read_frame};
 use std::marker::Model;
 
-/// Each so many JSON frames of a window one is acknowledged.
+/// One JSON frame in this many of a window is acknowledged.
 const ANSWERED: u32 = 64;
 
-/// Where the reading of a link stands.
+/// Where the reading of a link is.
 #[derive(Clone, Copy)]
 pub(crate) struct Reading {
     /// How many JSON frames the last window has.
@@ -32,7 +32,7 @@ impl Model for Reading {
     ghost inverse = { λ s. record { count = s.count; taken = s.taken } };
 }
 
-/// What stands in front of bytes that were received.
+/// What bytes that were received begin with.
 #[derive(Clone, Copy)]
 pub(crate) enum Next<'a> {
     /// The frame that is owed, of `used` bytes.
@@ -51,7 +51,7 @@ impl Reading {
         Reading { count: 0, taken: 0 }
     }
 
-    /// What stands in front of the bytes.
+    /// What the bytes begin with.
     pub(crate) fn next_in<'a>(&self, bytes: &'a [u8]) -> Next<'a>
         ensures { IsNext self.now bytes.now result }
     {
@@ -88,7 +88,7 @@ impl Reading {
         self.taken % ANSWERED == 0 || self.taken == self.count
     }
 
-    /// Goes on behind a frame.
+    /// Goes on after a frame.
     pub(crate) fn pass(&mut self, frame: &FrameView<'_>)
         requires { IsOwed self.old (frame_of frame.now) }
         ensures { self.new ≡ behind_frame self.old (frame_of frame.now) }

@@ -68,7 +68,7 @@ pub fn receive<X: Wait, P: Port, S: Sink, B: Bell>(
     SinkStatus::Done
 }
 
-/// Waits for the next link, serves it and finishes it. How the run ends, where it does.
+/// Waits for the next link, serves it and finishes it. How the run ends, if it does.
 fn serve_next<X: Wait, P: Port, S: Sink, B: Bell>(
     rt: &X,
     alloc: Global,
@@ -114,7 +114,7 @@ fn serve_next<X: Wait, P: Port, S: Sink, B: Bell>(
     }
 }
 
-/// Waits for the next link; the bell is asked before each accepting.
+/// Waits for the next link; the bell is asked before each accept.
 fn accept_next<X: Wait, P: Port, B: Bell>(
     rt: &X,
     port: &mut P,

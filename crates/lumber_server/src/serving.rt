@@ -9,10 +9,10 @@ use std::alloc::Global;
 use std::sync::Wait;
 
 /// Receives the frames of one link, writes each payload as one line, and acknowledges what was written, until the peer
-/// ends, sends what is not owed, or the bell rings, which is asked before each receiving.
+/// ends, sends what is not owed, or the bell rings, which is asked before each receive.
 ///
 /// A payload's line feeds become spaces, and a line feed ends the line (this project's profile). A frame is acknowledged
-/// where its number is a multiple of 64 or the count of its window (Lumberjack v2), once its line and all lines before it
+/// if its number is a multiple of 64 or the count of its window (Lumberjack v2), once its line and all lines before it
 /// are in the sink.
 ///
 /// Memory: the longest frame that is received, at most 10 bytes and `wire_base::MAX_PAYLOAD`, in a buffer that begins with

@@ -29,7 +29,7 @@ impl Session {
         })
     }
 
-    /// Receives once, and hands on what came. How the serving ended, where it did.
+    /// Receives once, and hands on what came. How the serving ended, if it did.
     pub(crate) fn turn<L: Link, S: Sink>(&mut self, link: &mut L, out: &mut S) -> Option<Served>
         requires { IsSettled (session_state self.old) }
         ensures turned { IsTurned (telling (L.told link.old) (S.written out.old))

@@ -18,7 +18,7 @@ use wire_base::NoMemory;
 /// What came of bytes that were received.
 #[derive(Clone, Copy)]
 pub(crate) enum Taken {
-    /// All whole frames in front were taken, and so many bytes are left.
+    /// All whole first frames were taken, and this many bytes are left.
     Left(usize),
     /// Reading stopped at this place of all that was received.
     Stop(u64),
@@ -44,7 +44,7 @@ impl Transfer {
         })
     }
 
-    /// Takes the whole frames in front of the bytes, and hands on all that was laid.
+    /// Takes the whole frames that the bytes begin with, and hands on all that was laid.
     pub(crate) fn take_in<L: Link, S: Sink>(
         &mut self,
         bytes: &[u8],
@@ -76,7 +76,7 @@ impl Transfer {
         })
     }
 
-    /// Takes the whole frames in front of the bytes, and says how many bytes are left.
+    /// Takes the whole frames that the bytes begin with, and says how many bytes are left.
     fn take_frames<L: Link, S: Sink>(
         &mut self,
         bytes: &[u8],
@@ -105,7 +105,7 @@ impl Transfer {
         Ok(left.len())
     }
 
-    /// Takes the frame in front of the bytes, where it is the one owed, and says how long it is.
+    /// Takes the frame that the bytes begin with, if it is the one owed, and says how long it is.
     fn take_next<L: Link, S: Sink>(
         &mut self,
         bytes: &[u8],
@@ -138,7 +138,7 @@ impl Transfer {
         }
     }
 
-    /// Hands on what is laid, where no further acknowledgement has room.
+    /// Hands on what is laid, if no further acknowledgement has room.
     fn make_room<L: Link, S: Sink>(&mut self, link: &mut L, out: &mut S) -> Result<(), Fault>
         ensures goes_on { OnOk result ((bytes : List ℕ) → GoesOn
             (telling (L.told link.old) (S.written out.old))

@@ -74,7 +74,7 @@ impl FinishedVisits {
         self.last = VisitChain::After(node);
     }
 
-    /// The talk of the link that was finished last; none where no link was.
+    /// The talk of the link that was finished last; none if no link was.
     pub(crate) fn last_talk(&self) -> &[Piece] {
         match &self.last {
             VisitChain::Start => &[],

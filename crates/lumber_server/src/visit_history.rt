@@ -3,7 +3,7 @@ ghost use Rattle.std.specs.Prelude.{OnOk, OnErr};
 use std::alloc::Global;
 use wire_base::{Blob, NoMemory, Piece};
 
-/// What a link in memory tells.
+/// What is known of a link in memory.
 #[derive(Debug, Drop)]
 pub(crate) struct VisitHistory {
     pub(crate) pieces: Vec<Piece>,

@@ -33,7 +33,7 @@ struct Named<'a> {
 }
 
 /// Where the program listens and which file it writes, as the arguments `-l HOST:PORT -o FILE --links N` say;
-/// `localhost`, 5044 and `out` where the arguments are not these.
+/// `localhost`, 5044 and `out` if the arguments are not these.
 pub fn sink_places(alloc: Global, words: &[Text]) -> Result<SinkPlaces, NoMemory>
     ensures named_or_default { IfOk result (λ places. ArePlaces words.now places) }
 {
@@ -69,7 +69,7 @@ fn text(alloc: Global, bytes: &[u8]) -> Result<Text, NoMemory>
     Text::from_bytes(alloc, bytes).map_err(|_| NoMemory)
 }
 
-/// What the arguments ask for; `None` exactly where they are not the command's. Takes no memory.
+/// What the arguments ask for; `None` exactly if they are not the command's. Takes no memory.
 pub(crate) fn asked<'a>(words: &'a [Text]) -> Option<AskedWords<'a>>
     ensures { IsAskedOf words.now (option_map asked_value result) }
 {
@@ -81,7 +81,7 @@ pub(crate) fn asked<'a>(words: &'a [Text]) -> Option<AskedWords<'a>>
     }
 }
 
-/// What the values ask for, where the marks before them are the command's.
+/// What the values ask for, if the marks before them are the command's.
 fn asked_where<'a>(
     marked: bool,
     place: &'a Text,
@@ -114,7 +114,7 @@ fn asked_by<'a>(place: &'a Text, file: &'a Text, count: &Text) -> Option<AskedWo
     asked_of(host_of(place.bytes()), file, link_count(count.bytes()))
 }
 
-/// What is asked for where the host and the number of links are there.
+/// What is asked for if the host and the number of links are there.
 fn asked_of<'a>(
     host: Option<Named<'a>>,
     file: &'a Text,
@@ -160,7 +160,7 @@ fn host_of<'a>(text: &'a [u8]) -> Option<Named<'a>>
     Some(Named { name, port })
 }
 
-/// How many bytes stand before the first colon.
+/// How many bytes are before the first colon.
 fn name_length(text: &[u8]) -> usize
     ensures value { result ≡ name_length text.now }
     ensures within { result ≤ length text.now }
@@ -182,21 +182,21 @@ fn is_name(text: &[u8]) -> bool
     !text.is_empty() && text.len() <= MOST_NAME && are_name_bytes(text)
 }
 
-/// Whether each byte may stand in a host's name.
+/// Whether each byte may be in a host's name.
 fn are_name_bytes(text: &[u8]) -> bool
     ensures { result ≡ list_all is_name_byte text.now }
 {
     text.iter().all(|byte| is_name_byte(*byte))
 }
 
-/// Whether the byte may stand in a host's name.
+/// Whether the byte may be in a host's name.
 fn is_name_byte(byte: u8) -> bool
     ensures { result ≡ is_name_byte byte }
 {
     matches!(byte, b'A'..=b'Z' | b'a'..=b'z' | b'0'..=b'9' | b'_' | b'.' | b'-')
 }
 
-/// The port behind a name and its colon.
+/// The port after a name and its colon.
 fn port_behind(rest: &[u8]) -> Option<u16>
     ensures { IsPortBehind rest.now result }
 {

@@ -34,7 +34,7 @@ pub fn small(word: &str) -> Result<u32, WordError> {
     u32::try_from(number(word)?).map_err(|_| WordError::NoNumber)
 }
 
-/// The bytes of a word. Its parts stand between `+`, and `x*9` is nine times `x`; in a part `~` and two hexadecimal digits
+/// The bytes of a word. Its parts are between `+`, and `x*9` is nine times `x`; in a part `~` and two hexadecimal digits
 /// are one byte, and each other byte is itself.
 pub fn bytes(alloc: Global, word: &str) -> Result<Vec<u8>, WordError> {
     let mut bytes = Vec::new(alloc);

@@ -1,4 +1,4 @@
--- Records in their order, each behind those before it, and what they leave (this project's profile).
+-- Records in their order, each after those before it, and what they leave (this project's profile).
 use Rattle.std.specs.Prelude.{ℕ, ◌<◌, ◌≤◌, List, [], ◌∷◌, ◌++◌, length, drop}
 use Rattle.spool_queue.specs.declared.limits.TheConstants.{MAX_EVENT_BYTES}
 use Rattle.spool_queue.specs.Records.{Record, Event, Settlement, record_bytes}

@@ -3,7 +3,7 @@
 use Rattle.std.specs.Prelude.{ℕ, ◌⊎◌}
 use Rattle.outside.specs.Counts.{Rose}
 
--- counts of a link or of a wire, before a call and behind it
+-- counts of a link or of a wire, before a call and after it
 pub record LinkCounts : Type 0 where
   pub faults_before : ℕ
   pub faults_now : ℕ

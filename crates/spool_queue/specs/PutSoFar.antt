@@ -1,4 +1,4 @@
--- For private clauses: lines that were put one behind the other.
+-- For private clauses: lines that were put one after another.
 use Rattle.std.specs.Prelude.{◌≡◌, ◌≢◌, ℕ, ◌+◌, ◌≤◌, List, ◌++◌, length, Option, Some, IfSome, OnOk, Result}
 use Rattle.outside.specs.Counts.{Rose}
 use Rattle.outside.specs.DiskImages.{LeavesOnly, Only}
@@ -15,7 +15,7 @@ use Rattle.spool_queue.specs.Spool.{IsReadAs}
 use Rattle.spool_queue.specs.Standing.{HoldsList, IsClosed, count_of, reserved}
 use Rattle.spool_queue.specs.Stopping.{status_after}
 
--- some of these lines stand behind these payloads, from the first one on
+-- some of these lines come after these payloads, from the first one on
 abbrev pub IsFrontPut : List (List ℕ) → List (List ℕ) → List ℕ → Type 0
 IsFrontPut list lines image = (front : List (List ℕ)) × (back : List (List ℕ)) × (lines ≡ front ++ back) × IsReadAs image (list ++ front)
 
@@ -24,7 +24,7 @@ abbrev pub CrashesInLines : {D : Type 0} → DiskGhosts D → D → D → Spool 
 CrashesInLines disk old new was lines =
     Only (disk.contents old) (disk.images old) → (list : List (List ℕ)) → HoldsList was list (disk.contents old) → LeavesOnly disk.moment disk.images_since old new (IsFrontPut list lines)
 
--- these bytes were taken, where `begun` was the front of a line before and `rest` is it behind them: the lines that they
+-- these bytes were taken, if `begun` was the front of a line before and `rest` is it after them: the lines that they
 -- end were put
 pub record PutsLines {D : Type 0} (disk : DiskGhosts D) (old new : D) (was now : Spool) (begun bytes rest : List ℕ) : Type 0 where
   pub lines : List (List ℕ)
@@ -47,7 +47,7 @@ IsRefused refusal Closed number = ⊥
 IsRefused refusal NoMemory number = Unit {0}
 
 -- these bytes were taken up to some place: so many of the lines that they end were put, and the next one was tried, where
--- the spool met the error
+-- the spool hit the error
 pub record StopsIn {D : Type 0} (disk : DiskGhosts D) (old new : D) (was now : Spool) (begun bytes : List ℕ) (error : SpoolError) : Type 0 where
   pub lines : List (List ℕ)
   pub tried : List (List ℕ)

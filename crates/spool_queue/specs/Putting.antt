@@ -1,5 +1,5 @@
 -- What a run that puts the lines of a source leaves (this project's profile): at every moment the payloads that were
--- outstanding as it began, and behind them the first lines of the source; and what it prints.
+-- outstanding as it began, and after them the first lines of the source; and what it prints.
 use Rattle.std.specs.Prelude.{◌≡◌, ◌≢◌, ℕ, List, ◌++◌, length, Option, Some, None, IfSome}
 use Rattle.spool_queue.specs.declared.status.SpoolStatus.{SpoolStatus}
 use Rattle.spool_queue.specs.declared.status.SpoolStatus.TheVariants.{Done, Usage, SpoolBad, DiskFault, Full, Unreachable, OutFault, TooLong}
@@ -8,7 +8,7 @@ use Rattle.spool_queue.specs.Printing.{HasTaken, spooled_text}
 use Rattle.spool_queue.specs.Spool.{IsReadAs}
 use Rattle.spool_queue.specs.Standing.{Holds}
 
--- the first lines of the source stand behind these payloads
+-- the first lines of the source come after these payloads
 pub record IsPutBehind (source : Option (List ℕ)) (list : List (List ℕ)) (image : List ℕ) : Type 0 where
   pub lines : List (List ℕ)
   pub first : AreFirstLines source lines
@@ -22,13 +22,13 @@ IsByRefusal refusal (Full line) = refusal ≡ Some (Full line)
 IsByRefusal refusal (TooLong line) = refusal ≡ Some (TooLong line)
 IsByRefusal refusal _ = Unit {0}
 
--- the line that ended the run is the one behind those that were put
+-- the line that ended the run is the one after those that were put
 abbrev pub IsNextLine : ℕ → SpoolStatus → Type 0
 IsNextLine put (Full line) = line ≡ put
 IsNextLine put (TooLong line) = line ≡ put
 IsNextLine put _ = Unit {0}
 
--- how a run that puts may end behind its opening
+-- how a run that puts may end after its opening
 abbrev pub IsPutStatus : SpoolStatus → Type 0
 IsPutStatus Usage = ⊥
 IsPutStatus (SpoolBad at) = ⊥
@@ -39,7 +39,7 @@ IsPutStatus _ = Unit {0}
 abbrev pub LeavesTheDisk : SpoolStatus → Type 0
 LeavesTheDisk status = (status ≢ DiskFault) × (status ≢ OutFault)
 
--- what a source has to give, what a disk holds behind a run, and what a sink held before it and holds behind it
+-- what a source has to give, what a disk holds after a run, and what a sink held before it and holds after it
 pub record PutCall : Type 0 where
   pub source : Option (List ℕ)
   pub contents : Option (List ℕ)

@@ -20,11 +20,11 @@ kind_of (Settlement count) = 0x73
 abbrev pub padded : ℕ → ℕ → List ℕ
 padded width number = replicate (width - length (decimal number)) 48 ++ decimal number
 
--- what stands in front of a body, the open gate included
+-- what is before a body, the open gate included
 abbrev pub head_bytes : ℕ → ℕ → List ℕ
 head_bytes size kind = 0x7B ∷ (padded 10 size ++ 32 ∷ kind ∷ [])
 
--- the record behind its open gate
+-- the record after its open gate
 abbrev pub record_of : ℕ → List ℕ → List ℕ
 record_of kind body = head_bytes (length body) kind ++ (body ++ codes "\n")
 

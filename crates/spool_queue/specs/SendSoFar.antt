@@ -43,7 +43,7 @@ pub record Settles {D : Type 0} (disk : DiskGhosts D) (old new : D) (was now : S
 
 -- ---- a talk
 
--- a link that told as it was made has told these pieces
+-- a link of which its talk was known as it was made has had these pieces
 abbrev pub HasPieces : Option Talk → Option Talk → List Piece → Type 0
 HasPieces None told pieces = Unit {0}
 HasPieces (Some began) None pieces = ⊥
@@ -73,7 +73,7 @@ abbrev pub Hears : Held → Exchange → List ℕ → Bool → Type 0
 Hears window e bytes true = StandsFor window (with_talk e (with_bytes e.talk bytes))
 Hears window e bytes false = HearsFault window e bytes
 
--- the talk of the link acknowledges these payloads, where it told as it was made
+-- the talk of the link acknowledges these payloads, if its talk was known as it was made
 abbrev pub TalkAcknowledges : Option Talk → Option Talk → List (List ℕ) → Type 0
 TalkAcknowledges None told payloads = Unit {0}
 TalkAcknowledges (Some began) None payloads = ⊥
@@ -135,7 +135,7 @@ IsReadStop before now (stop.Spool Full) = ⊥
 IsReadStop before now (stop.Spool Closed) = ⊥
 IsReadStop before now (stop.Spool NoMemory) = Unit {0}
 
--- the window holds the first of these payloads, and the walk stands behind them
+-- the window holds the first of these payloads, and the walk is after them
 pub record IsFilledWith (bytes : List ℕ) (list : List (List ℕ)) (window : Held) (walk : Walk) : Type 0 where
   pub first : payloads_of window.parcels ≡ take (length window.parcels) list
   pub log : Log
@@ -172,7 +172,7 @@ IsSendingStop before now (stop.Spool Full) = ⊥
 IsSendingStop before now (stop.Spool Closed) = ⊥
 IsSendingStop before now (stop.Spool NoMemory) = Unit {0}
 
--- the talk of a link that told as it was made is of this kind
+-- the talk of a link whose talk was known as it was made is of this kind
 abbrev pub LinkTalkIs : (Talk → Type 0) → Option Talk → Option Talk → Type 0
 LinkTalkIs Is None told = Unit {0}
 LinkTalkIs Is (Some began) None = ⊥
@@ -188,7 +188,7 @@ IsSilentOver began told before after = LinkTalkIs IsUnanswered began told × Pas
 
 -- ---- a clock
 
--- what it told stays in front of what it tells
+-- what it reported stays the front of what it reports
 abbrev pub ClockGoesOn : Option (List ℕ) → Option (List ℕ) → Type 0
 ClockGoesOn None after = Unit {0}
 ClockGoesOn (Some before) after = (more : List ℕ) × (after ≡ Some (before ++ more))
@@ -198,7 +198,7 @@ pub record StandsAmong (moments : List ℕ) (moment : ℕ) : Type 0 where
   pub behind : List ℕ
   pub are : moments ≡ before ++ moment ∷ behind
 
--- the moment is one of those since, where the clock tells
+-- the moment is one of those since, if the clock's moments are known
 abbrev pub HasGiven : Option (List ℕ) → Option (List ℕ) → ℕ → Type 0
 HasGiven None after moment = Unit {0}
 HasGiven (Some before) None moment = ⊥

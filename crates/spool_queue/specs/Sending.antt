@@ -2,7 +2,7 @@
 use Rattle.std.specs.Prelude.{◌≡◌, ℕ, ◌≤◌, length, false}
 use Rattle.lumber_client.specs.Held.{Held, begun_in}
 
--- nothing is held, and no fault was told
+-- nothing is held, and no fault was reported
 pub record IsIdle (w : Held) : Type 0 where
   pub most : w.most ≡ 2048
   pub depth : w.depth ≡ 1
@@ -12,7 +12,7 @@ pub record IsIdle (w : Held) : Type 0 where
   pub flights : length w.flights ≡ 0
   pub faultless : w.hearing.failed ≡ false
 
--- all that is held was begun, and is no more than so many; nothing of it waits to be settled, and no fault was told
+-- all that is held was begun, and is no more than so many; nothing of it waits to be settled, and no fault was reported
 pub record IsAwaited (w : Held) (count : ℕ) : Type 0 where
   pub most : w.most ≡ 2048
   pub depth : w.depth ≡ 1

@@ -25,7 +25,7 @@ pub record IsOneTalk (before after : List Outcome) (payloads : List (List ℕ)) 
   pub finished : after ≡ before ++ Finished talk faults idles ∷ []
   pub acknowledges : Acknowledges talk.pieces payloads
 
--- the run's one talk acknowledges these payloads, as it is at the end; none are where no link was made
+-- the run's one talk acknowledges these payloads, as it is at the end; none are if no link was made
 abbrev pub AreAcknowledged : Option (List Outcome) → Option (List Outcome) → List (List ℕ) → Type 0
 AreAcknowledged None after payloads = Unit {0}
 AreAcknowledged (Some before) None payloads = ⊥
@@ -42,7 +42,7 @@ pub record IsLeftOf (list acknowledged : List (List ℕ)) (image : List ℕ) : T
   pub only_acknowledged : IsFrontOf settled acknowledged
   pub read_as : IsReadAs image left
 
--- what a disk holds behind a run, and what a sink held before it and holds behind it
+-- what a disk holds after a run, and what a sink held before it and holds after it
 pub record SendCall : Type 0 where
   pub contents : Option (List ℕ)
   pub written_before : Option (List ℕ)
@@ -70,7 +70,7 @@ pub record IsTalkOf (Is : Talk → Type 0) (before after : List Outcome) : Type 
   pub finished : after ≡ before ++ Finished talk faults idles ∷ []
   pub is : Is talk
 
--- the talk of the run's one link is of this kind, where the wire tells
+-- the talk of the run's one link is of this kind, if the wire's outcomes are known
 abbrev pub OneTalkIs : (Talk → Type 0) → Option (List Outcome) → Option (List Outcome) → Type 0
 OneTalkIs Is None after = Unit {0}
 OneTalkIs Is (Some before) None = ⊥
@@ -83,12 +83,12 @@ HasFault talk = HasPeerFault talk.pieces
 abbrev pub PeerFails : Option (List Outcome) → Option (List Outcome) → Type 0
 PeerFails before after = OneTalkIs HasFault before after
 
--- the peer did not answer over it, and the clock, by what it told before and tells now, went on for so long
+-- the peer did not answer over it, and the clock, by its moments before and now, went on for this long
 pub record PeerIsSilent (before after : Option (List Outcome)) (told tells : Option (List ℕ)) : Type 0 where
   pub unanswered : OneTalkIs IsUnanswered before after
   pub passed : PassesTimeout told tells
 
--- how a run that sends may end behind its opening; `SpoolBad` only where the disk has changed by itself
+-- how a run that sends may end after its opening; `SpoolBad` only if the disk has changed by itself
 abbrev pub IsSendStatus : SpoolStatus → Type 0
 IsSendStatus Usage = ⊥
 IsSendStatus SourceFault = ⊥

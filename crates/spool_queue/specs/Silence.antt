@@ -1,5 +1,5 @@
 -- A peer that was silent (Filebeat reference, Logstash output, `timeout`; this project's profile): whole windows were sent, not all
--- of their payloads are acknowledged, the link was idle behind what was sent last, and the clock gave two moments 30 seconds
+-- of their payloads are acknowledged, the link was idle after what was sent last, and the clock gave two moments 30 seconds
 -- apart.
 use Rattle.std.specs.Prelude.{◌≡◌, ℕ, ◌+◌, ◌-◌, ◌<◌, ◌≤◌, true, List, ◌∷◌, ◌++◌, drop, length, flat_map, Option, Some, None}
 use Rattle.std.specs.List.{AllByRecursion}
@@ -20,7 +20,7 @@ pub record IsUnanswered (talk : Talk) : Type 0 where
   pub fewer : length acknowledged < length (flat_map (λ window. window) windows)
   pub idled : talk.idled ≡ true
 
--- one of the moments is so many milliseconds or more behind an earlier one
+-- one of the moments is this many milliseconds or more after an earlier one
 pub record LieApart (moments : List ℕ) (distance : ℕ) : Type 0 where
   pub before : List ℕ
   pub earlier : ℕ
@@ -30,12 +30,12 @@ pub record LieApart (moments : List ℕ) (distance : ℕ) : Type 0 where
   pub are : moments ≡ before ++ earlier ∷ (between ++ later ∷ behind)
   pub apart : earlier + distance ≤ later
 
--- of what a clock told before a run and tells behind it, the moments of the run; the last one before it is among them, since a
--- clock that gives it again tells nothing new
+-- by the moments of a clock before a run and after it, the moments of the run; the last one before it is among them, since a
+-- clock that gives it again adds nothing new
 abbrev pub moments_since : List ℕ → List ℕ → List ℕ
 moments_since before after = drop (length before - 1) after
 
--- where the clock tells, two moments of the run lie the timeout apart
+-- if the clock's moments are known, two moments of the run lie the timeout apart
 abbrev pub PassesTimeout : Option (List ℕ) → Option (List ℕ) → Type 0
 PassesTimeout None after = Unit {0}
 PassesTimeout (Some before) None = ⊥

@@ -5,7 +5,7 @@ use Rattle.std.specs.Prelude.{◌≡◌, ◌≢◌, ◌⊎◌, ℕ, ◌<◌, ◌
 use Rattle.spool_queue.specs.Records.{Record, record_bytes}
 use Rattle.spool_queue.specs.Log.{Log, log_bytes, AreRecords, MayFollow, outstanding}
 
--- these records stand in front, and then `rest`, which begins at `place`
+-- these records come first, and then `rest`, which begins at `place`
 pub record Reaches (spool : List ℕ) (log : Log) (place : ℕ) (rest : List ℕ) : Type 0 where
   pub each : AreRecords log
   pub bytes : spool ≡ log_bytes log ++ rest
@@ -22,13 +22,13 @@ pub record EndsAt (spool : List ℕ) (log : Log) (end : ℕ) : Type 0 where
 abbrev pub BeginsWithRecord : Log → List ℕ → Type 0
 BeginsWithRecord log bytes = (one : Record) × (rest : List ℕ) × (bytes ≡ record_bytes one ++ rest) × MayFollow log one
 
--- behind these records the gate is open and no record follows
+-- after these records the gate is open and no record follows
 pub record LacksRecord (spool : List ℕ) (log : Log) (at : ℕ) : Type 0 where
   pub rest : List ℕ
   pub reaches : Reaches spool log at (0x7B ∷ rest)
   pub no_record : ¬ BeginsWithRecord log (0x7B ∷ rest)
 
--- or the spool ends where a gate is to stand
+-- or the spool ends where a gate is to be
 abbrev pub BreaksAt : List ℕ → Log → ℕ → Type 0
 BreaksAt spool log at = LacksRecord spool log at ⊎ Reaches spool log at []
 
@@ -40,6 +40,6 @@ IsReadAs spool list =
 abbrev pub IsBad : List ℕ → ℕ → Type 0
 IsBad spool at = (1 < length spool) × ((log : Log) × BreaksAt spool log at)
 
--- the last gate of a spool with these bytes stands at this place
+-- the last gate of a spool with these bytes is at this place
 abbrev pub IsLastGate : List ℕ → ℕ → Type 0
 IsLastGate spool end = ((length spool ≤ 1) × (end ≡ 0)) ⊎ ((1 < length spool) × ((log : Log) × EndsAt spool log end))

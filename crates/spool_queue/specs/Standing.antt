@@ -13,12 +13,12 @@ pub record IsSpoolOf (spool : Spool) (bytes : List ℕ) (list : List (List ℕ))
   pub settlements : settled log ≡ spool.settled
   pub list_is : outstanding log ≡ list
 
--- the contents are told, and are of this kind
+-- the contents are known, and are of this kind
 abbrev pub Holds : (List ℕ → Type 0) → Option (List ℕ) → Type 0
 Holds Kind None = ⊥
 Holds Kind (Some bytes) = Kind bytes
 
--- the contents are told, and are those of this spool, with these payloads outstanding
+-- the contents are known, and are those of this spool, with these payloads outstanding
 abbrev pub HoldsList : Spool → List (List ℕ) → Option (List ℕ) → Type 0
 HoldsList spool list contents = Holds (λ now. IsSpoolOf spool now list) contents
 
@@ -45,7 +45,7 @@ WouldFill spool size = MAX_SPOOL_BYTES < spool.end + 14 + size + 34 * (count_of 
 abbrev pub IsEither : List (List ℕ) → List (List ℕ) → List ℕ → Type 0
 IsEither one other image = IsReadAs image one ⊎ IsReadAs image other
 
--- records that were passed stay where they are
+-- records that were passed stay that way
 abbrev pub KeepsPlaces : Spool → Option (List ℕ) → Option (List ℕ) → Type 0
 KeepsPlaces was before now = (bytes : List ℕ) (list : List (List ℕ)) (log : Log) (place : ℕ) → before ≡ Some bytes → IsSpoolOf was bytes list → Reaches bytes log place (drop place bytes) → length (payloads log) < 2 ^ 64 →
     Holds (λ bytes. Reaches bytes log place (drop place bytes)) now

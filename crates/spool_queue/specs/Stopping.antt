@@ -6,7 +6,7 @@ use Rattle.spool_queue.specs.declared.status.SpoolStatus.TheVariants as status
 use Rattle.spool_queue.specs.declared.stop.Stop.{Stop}
 use Rattle.spool_queue.specs.declared.stop.Stop.TheVariants.{Source, Unreachable, Spool}
 
--- where so many lines were put
+-- if this many lines were put
 abbrev pub status_for : Stop → ℕ → SpoolStatus
 status_for Source lines = status.SourceFault
 status_for Unreachable lines = status.Unreachable

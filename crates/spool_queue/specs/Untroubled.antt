@@ -1,6 +1,6 @@
 -- When a run has to be done (this project's profile): its arguments are the command's, its spool can be read, no count of faults
 -- rises, each line is put within the limits, and the peer sends nothing but acknowledgements within their windows, in time as
--- far as the clock tells. Then it ends with `Done`, or for want of memory.
+-- far as the clock's moments are known. Then it ends with `Done`, or out of memory.
 use Rattle.std.specs.Prelude.{◌≡◌, ◌⊎◌, ℕ, ◌+◌, ◌*◌, List, length, Option, Some, None}
 use Rattle.outside.specs.Counts.{Rose}
 use Rattle.outside.specs.Wires.{Outcome}
@@ -55,20 +55,20 @@ signs_of source wire disk clock sink others on = record {
 
 -- ---- a run that nothing troubles
 
--- the disk tells bytes that are a spool
+-- the disk's bytes are known and are a spool
 pub record TellsSpool (contents : Option (List ℕ)) : Type 0 where
   pub bytes : List ℕ
   pub list : List (List ℕ)
   pub tells : contents ≡ Some bytes
   pub reads : IsReadAs bytes list
 
--- the source tells what it gives, and each line of it is put behind these payloads
+-- what the source gives is known, and each line of it is put after these payloads
 pub record FitsAll (source : Option (List ℕ)) (bytes : List ℕ) (list : List (List ℕ)) : Type 0 where
   pub given : List ℕ
   pub tells : source ≡ Some given
   pub fits : (end : ℕ) → IsLastGate bytes end → refusal_of (end + 34 * length list) 0 (lines_of given) ≡ None
 
--- the wire tells, the talk of its one link has no fault of the peer, and it was not idle, or no two moments lie the timeout apart
+-- the wire's outcomes are known, the talk of its one link has no peer's fault, and it was not idle, or no two moments lie the timeout apart
 pub record IsServed (before now : RunSigns) : Type 0 where
   pub faultless : ¬ (PeerFails before.outcomes now.outcomes)
   pub in_time : (¬ (Rose before.wire_idles now.wire_idles)) ⊎ (¬ (PassesTimeout before.moments now.moments))

@@ -14,7 +14,7 @@ use Rattle.spool_queue.specs.Spool.{BreaksAt, EndsAt, Reaches}
 abbrev pub IsNoHead : List ℕ → Type 0
 IsNoHead bytes = (size kind : ℕ) → size < 10 ^ 10 → (kind ≡ 0x65) ⊎ (kind ≡ 0x73) → bytes ≡ head_bytes size kind → ⊥
 
--- what stands at a gate, by the first thirteen bytes from the gate on
+-- what is at a gate, by the first thirteen bytes from the gate on
 abbrev pub IsHeadOf : Head → List ℕ → Type 0
 IsHeadOf heads.Absent bytes = bytes ≡ []
 IsHeadOf heads.Closed bytes = (gate : ℕ) × (rest : List ℕ) × (bytes ≡ gate ∷ rest) × (gate ≢ 0x7B)
@@ -28,14 +28,14 @@ pub record IsWalkOf (bytes : List ℕ) (walk : Walk) (log : Log) : Type 0 where
   pub events : length (payloads log) ≡ walk.events
   pub settlements : settled log ≡ walk.settled
 
--- what one step of a walk found behind these records
+-- what one step of a walk found after these records
 abbrev pub IsStepOf : List ℕ → Log → Walk → Walk → Step → Type 0
 IsStepOf bytes log before after (steps.Event size) = IsWalkOf bytes after (Then log (Event (take size (drop (before.place + 13) bytes)))) × (length (take size (drop (before.place + 13) bytes)) ≡ size)
 IsStepOf bytes log before after steps.Settlement = (count : ℕ) × IsWalkOf bytes after (Then log (Settlement count))
 IsStepOf bytes log before after steps.Closed = EndsAt bytes log after.place × (after ≡ before)
 IsStepOf bytes log before after steps.Bad = BreaksAt bytes log after.place × (after ≡ before)
 
--- a walk went on where it passed a record, and else stands where it was
+-- a walk went on if it passed a record, and else is where it was
 abbrev pub GoesOn : Walk → Walk → Step → Type 0
 GoesOn before after (steps.Event size) = (after.place ≡ before.place + 14 + size) × (after.events ≡ before.events + 1) × (size ≤ MAX_EVENT_BYTES)
 GoesOn before after steps.Settlement = (before.place < after.place) × (after.events ≡ before.events)

@@ -13,7 +13,7 @@ is_name_byte byte =
 abbrev pub is_name : List ℕ → Bool
 is_name text = nat_lt 0 (length text) && (nat_le (length text) 253 && list_all is_name_byte text)
 
--- how many bytes stand before the first colon
+-- how many bytes are before the first colon
 abbrev pub name_length : List ℕ → ℕ
 name_length text = prefix_len (λ byte. not (byte == 58)) text
 

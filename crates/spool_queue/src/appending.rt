@@ -9,7 +9,7 @@ use outside::{Disk, Failed};
 
 const OPEN: &[u8] = b"{";
 
-/// Writes a record behind the closed gate at `end`, with the next gate, and then opens the gate.
+/// Writes a record after the closed gate at `end`, with the next gate, and then opens the gate.
 pub(crate) fn append<D: Disk>(disk: &mut D, end: u64, text: &[u8]) -> Result<(), Failed>
     requires end { IsPlace end }
     requires some { 0 < length text.now }

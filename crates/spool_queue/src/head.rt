@@ -6,10 +6,10 @@ ghost use Rattle.std.specs.Str.Parse.{digits_value};
 
 use std::str;
 
-/// The bytes of a record in front of its body: the gate, ten digits, a space and the kind.
+/// The bytes of a record before its body: the gate, ten digits, a space and the kind.
 pub(crate) const HEAD_BYTES: usize = 13;
 
-/// What stands at a gate.
+/// What is at a gate.
 #[derive(Clone, Copy, Drop)]
 pub(crate) enum Head {
     /// The spool ends here.
@@ -50,7 +50,7 @@ pub(crate) fn read_head(bytes: &[u8]) -> Head
     }
 }
 
-/// `None` exactly where these are not ten digits.
+/// `None` exactly if these are not ten digits.
 fn read_size(digits: &[u8]) -> Option<u64>
     requires { length digits.now ≡ 10 }
     ensures { SomeIff result (All IsAsciiDigit digits.now) (digits_value 10 digits.now) }

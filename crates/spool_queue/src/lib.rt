@@ -1,6 +1,6 @@
 //! A spool: payloads on a disk that stay there until a peer has acknowledged them.
 //!
-//! A spool is a row of records, each behind a gate. A record is on the disk behind a closed gate before that gate opens, so a
+//! A spool is a row of records, each after a gate. A record is on the disk after a closed gate before that gate opens, so a
 //! crash leaves the payloads before it or the payloads after it. No checksum is needed. An event carries a payload, and a
 //! settlement says how many events are settled in all; what is left is outstanding. Once nothing is, the spool is cut short.
 //! The bytes of records and what they are read as are definitions of `specs/` over whole byte lists.

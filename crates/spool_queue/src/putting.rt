@@ -57,7 +57,7 @@ fn put_piece<D: Disk>(
     Ok(())
 }
 
-/// Takes the next byte of a line: puts the line where the byte ends it.
+/// Takes the next byte of a line: puts the line if the byte ends it.
 fn put_byte<D: Disk>(
     alloc: Global,
     spool: &mut Spool,

@@ -33,7 +33,7 @@ pub fn spool_run<X: Wait, R: Source, W: Wire, D: Disk, K: Clock, S: Sink>(
         others_of source.new wire.new clock.new out.new
         ≡ others_of source.old wire.old clock.old out.old }
 
-    // A run that puts, over a disk that tells and is read.
+    // A run that puts, over a known disk that is read.
     ensures puts { IsPut words.now → (bytes : List ℕ) (list : List (List ℕ)) →
         D.contents disk.old ≡ Some bytes → IsReadAs bytes list →
         RunsOn (others_of source.old wire.old clock.old out.old)
@@ -41,7 +41,7 @@ pub fn spool_run<X: Wait, R: Source, W: Wire, D: Disk, K: Clock, S: Sink>(
         (put_call (R.left source.old) (D.contents disk.new) (S.written out.old) (S.written out.new))
         list room result) }
 
-    // Where nothing was pending, a crash at any moment of it leaves the payloads and the first lines behind them.
+    // If nothing was pending, a crash at any moment of it leaves the payloads and the first lines after them.
     ensures put_at_each_moment { IsPut words.now → Only (D.contents disk.old) (D.images disk.old) →
         (bytes : List ℕ) (list : List (List ℕ)) → D.contents disk.old ≡ Some bytes →
         IsReadAs bytes list →
@@ -50,7 +50,7 @@ pub fn spool_run<X: Wait, R: Source, W: Wire, D: Disk, K: Clock, S: Sink>(
 
     ensures put_is_never_unreachable { IsPut words.now → result ≢ SpoolStatus.Unreachable }
 
-    // A run that sends, over a disk that tells and is read: what its one talk acknowledges is settled, and nothing else.
+    // A run that sends, over a known disk that is read: what its one talk acknowledges is settled, and nothing else.
     ensures sends { IsSend words.now → (bytes : List ℕ) (list : List (List ℕ)) →
         D.contents disk.old ≡ Some bytes → IsReadAs bytes list →
         RunsOn (others_of source.old wire.old clock.old out.old)
@@ -60,7 +60,7 @@ pub fn spool_run<X: Wait, R: Source, W: Wire, D: Disk, K: Clock, S: Sink>(
         Sends (send_call (D.contents disk.new) (S.written out.old) (S.written out.new))
         list acknowledged result) }
 
-    // Where nothing was pending, a crash at any moment of it leaves the payloads without a front that is acknowledged.
+    // If nothing was pending, a crash at any moment of it leaves the payloads without a front that is acknowledged.
     ensures sent_at_each_moment { IsSend words.now →
         Only (D.contents disk.old) (D.images disk.old) →
         (bytes : List ℕ) (list : List (List ℕ)) → D.contents disk.old ≡ Some bytes →
@@ -163,7 +163,7 @@ fn say_spooled<S: Sink>(out: &mut S, lines: u64, answer: Result<(), Stop>) -> Sp
     }
 }
 
-/// The status of a run before and behind which so many payloads were outstanding. It prints how many it has settled, and
+/// The status of a run before and after which this many payloads were outstanding. It prints how many it settled, and
 /// how many are left.
 fn say_sent<S: Sink>(out: &mut S, before: u64, left: u64, answer: Result<(), Stop>) -> SpoolStatus
     requires fewer { left ≤ before }

@@ -23,7 +23,7 @@ use wire_base::{Blob, Epoch, Moment, Parcel, Slot, Span};
 /// The most payloads of a window.
 const WINDOW_PAYLOADS: u32 = 2048;
 
-/// So long the clock pauses where nothing has come.
+/// How long the clock pauses if nothing has come.
 const PAUSE_MS: u64 = 10;
 
 /// So many bytes are received at once at most.

@@ -52,7 +52,7 @@ impl Spool {
         ensures durable { Only (D.contents disk.old) (D.images disk.old) →
             OnOk result (Only (D.contents disk.new) (D.images disk.new)) }
 
-        // Where nothing was pending, a crash at any moment of the call leaves the same payloads.
+        // If nothing was pending, a crash at any moment of the call leaves the same payloads.
         ensures each_moment { Only (D.contents disk.old) (D.images disk.old) →
             (bytes : List ℕ) (list : List (List ℕ)) →
             D.contents disk.old ≡ Some bytes → IsReadAs bytes list →
@@ -96,7 +96,7 @@ impl Spool {
         self.events - self.settled
     }
 
-    /// Adds a payload behind those that are outstanding. All memory is taken before the disk is called.
+    /// Adds a payload after those that are outstanding. All memory is taken before the disk is called.
     pub fn put<D: Disk>(
         &mut self,
         alloc: Global,
@@ -115,7 +115,7 @@ impl Spool {
         ensures one_more { OnOk result (count_of self.new ≡ count_of self.old + 1) }
         ensures count_kept { OnErr result (count_of self.new ≡ count_of self.old) }
 
-        // Where nothing was pending, a crash at any moment of the call leaves the payloads before it, or these and the
+        // If nothing was pending, a crash at any moment of the call leaves the payloads before it, or these and the
         // new one.
         ensures each_moment { Only (D.contents disk.old) (D.images disk.old) →
             (bytes : List ℕ) (list : List (List ℕ)) →
@@ -157,7 +157,7 @@ impl Spool {
         Ok(())
     }
 
-    /// The payload of this number of those that are outstanding, from the front. `Bad` comes only where the disk has not the
+    /// The payload of this number of those that are outstanding, from the front. `Bad` comes only if the disk has not the
     /// bytes that were opened, put and settled.
     pub fn read<D: Disk>(&self, alloc: Global, disk: &mut D, i: u64) -> Result<Blob, SpoolError>
         requires { i < count_of self.now }
@@ -220,7 +220,7 @@ impl Spool {
         ensures durable { OnOk result (Only (D.contents disk.new) (D.images disk.new)) }
         ensures room { HasRoom self.old → OnOk result (HasRoom self.new) }
 
-        // Where nothing was pending, a crash at any moment of the call leaves the payloads before it, or these without the
+        // If nothing was pending, a crash at any moment of the call leaves the payloads before it, or these without the
         // first `n`.
         ensures each_moment { Only (D.contents disk.old) (D.images disk.old) →
             (bytes : List ℕ) (list : List (List ℕ)) →
@@ -264,7 +264,7 @@ impl Spool {
         ensures durable { OnOk result (Only (D.contents disk.new) (D.images disk.new)) }
         ensures room { OnOk result (HasRoom self.new) }
 
-        // Where nothing was pending, a crash at any moment of the call leaves nothing outstanding.
+        // If nothing was pending, a crash at any moment of the call leaves nothing outstanding.
         ensures each_moment { Only (D.contents disk.old) (D.images disk.old) →
             (bytes : List ℕ) (list : List (List ℕ)) →
             D.contents disk.old ≡ Some bytes → IsSpoolOf self.old bytes list →
@@ -300,7 +300,7 @@ impl Spool {
         }
     }
 
-    /// Appends a record; the spool is closed where the disk fails.
+    /// Appends a record; the spool is closed if the disk fails.
     fn add<D: Disk>(&mut self, disk: &mut D, text: &[u8]) -> Result<(), SpoolError>
         requires some { 0 < length text.now }
         ensures appended { (front rest : List ℕ) (gate : ℕ) →

@@ -15,7 +15,7 @@ pub(crate) enum Stop {
 }
 
 impl Stop {
-    /// The status, where so many lines were put.
+    /// The status, if this many lines were put.
     pub(crate) fn status(self, lines: u64) -> SpoolStatus
         ensures { result ≡ status_for self lines }
     {
@@ -32,7 +32,7 @@ impl Stop {
     }
 }
 
-/// The status of a run, where so many lines were put.
+/// The status of a run, if this many lines were put.
 pub(crate) fn status_of(answer: Result<(), Stop>, lines: u64) -> SpoolStatus
     ensures { result ≡ status_after answer lines }
 {

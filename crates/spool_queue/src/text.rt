@@ -5,10 +5,10 @@ use itoa::{Buffer, write_digits};
 use std::alloc::Global;
 use wire_base::NoMemory;
 
-/// The longest record of a settlement behind its gate, with the next gate.
+/// The longest record of a settlement after its gate, with the next gate.
 pub(crate) const SETTLEMENT_BYTES: usize = 34;
 
-/// The record of an event behind its gate, and a closed gate behind it.
+/// The record of an event after its gate, and a closed gate after it.
 pub(crate) fn event_text(alloc: Global, payload: &[u8]) -> Result<Vec<u8>, NoMemory>
     ensures { IfOk result (λ text. 0x7B ∷ text.items ≡ record_of 0x65 payload.now ++ codes ".") }
 {
@@ -19,7 +19,7 @@ pub(crate) fn event_text(alloc: Global, payload: &[u8]) -> Result<Vec<u8>, NoMem
     Ok(text)
 }
 
-/// Lays the record of a settlement behind its gate, and a closed gate behind it, and answers how long they are.
+/// Lays the record of a settlement after its gate, and a closed gate after it, and answers how long they are.
 pub(crate) fn settlement_text(text: &mut [u8; SETTLEMENT_BYTES], settled: u64) -> usize
     ensures within { result ≤ 34 }
     ensures some { 14 < result }

@@ -22,7 +22,7 @@ const FRAME_BYTES: u64 = 14;
 /// A walk over the records of a spool, from the front.
 #[derive(Clone, Copy, Drop)]
 pub(crate) struct Walk {
-    /// the gate at which it stands
+    /// the gate at which it is
     pub(crate) place: u64,
     /// how many events it has passed
     pub(crate) events: u64,
@@ -61,7 +61,7 @@ impl Walk {
         }
     }
 
-    /// Passes all records. `Bad` is told where they end at no gate that is not open.
+    /// Passes all records. `Bad` is reported unless they end at a gate that is not open.
     pub(crate) fn pass_all<D: Disk>(&mut self, disk: &mut D) -> Result<(), SpoolError>
         ensures told { (bytes : List ℕ) (log : Log) → D.contents disk.old ≡ Some bytes →
             IsWalkOf bytes self.old log →
@@ -87,7 +87,7 @@ impl Walk {
         }
     }
 
-    /// Reads the payload of the event of this number, from 0 on, and stands behind it. `Bad` is told where there is no such
+    /// Reads the payload of the event of this number, from 0 on, and is after it. `Bad` is reported if there is no such
     /// event.
     pub(crate) fn read_event<D: Disk>(
         &mut self,

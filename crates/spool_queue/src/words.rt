@@ -40,7 +40,7 @@ pub(crate) enum Asked<'a> {
     Send(Target<'a>),
 }
 
-/// What the arguments ask for; `None` exactly where they are neither `put` nor `send HOST`. Takes no memory.
+/// What the arguments ask for; `None` exactly if they are neither `put` nor `send HOST`. Takes no memory.
 pub(crate) fn asked_of<'a>(alloc: Global, words: &'a [Text]) -> Option<Asked<'a>>
     ensures { IsAskedBy words.now result }
 {
@@ -68,7 +68,7 @@ fn target_of<'a>(alloc: Global, text: &'a [u8]) -> Option<Target<'a>>
     }
 }
 
-/// How many bytes stand before the first colon.
+/// How many bytes are before the first colon.
 fn name_length(text: &[u8]) -> usize
     ensures value { result ≡ name_length text.now }
     ensures within { result ≤ length text.now }
@@ -83,7 +83,7 @@ fn name_length(text: &[u8]) -> usize
     count
 }
 
-/// The port behind a name.
+/// The port after a name.
 fn port_behind(rest: &[u8]) -> Option<u16>
     ensures { IsSome result ↔ IsPortBehind rest.now }
 {
@@ -110,14 +110,14 @@ fn is_name(text: &[u8]) -> bool
     !text.is_empty() && text.len() <= MAX_NAME_BYTES && are_name_bytes(text)
 }
 
-/// Whether each byte may stand in a host's name.
+/// Whether each byte may be in a host's name.
 fn are_name_bytes(text: &[u8]) -> bool
     ensures { result ≡ list_all is_name_byte text.now }
 {
     text.iter().all(|byte| is_name_byte(*byte))
 }
 
-/// Whether the byte may stand in a host's name.
+/// Whether the byte may be in a host's name.
 fn is_name_byte(byte: u8) -> bool
     ensures { result ≡ is_name_byte byte }
 {

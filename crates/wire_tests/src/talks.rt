@@ -60,7 +60,7 @@ impl Talk {
         Ok(())
     }
 
-    /// The payloads that are acknowledged, one behind the other.
+    /// The payloads that are acknowledged, one after another.
     fn show(&self, rt: &HostRuntime) -> Result<()> {
         let mut joined = Vec::new(rt.alloc());
         for payload in &acknowledged(rt.alloc(), &self.pieces)? {

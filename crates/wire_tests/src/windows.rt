@@ -109,7 +109,7 @@ impl Windows {
         Ok(())
     }
 
-    /// The payloads of the parcels that are handed out, one behind the other.
+    /// The payloads of the parcels that are handed out, one after another.
     fn settle(&mut self, rt: &HostRuntime) -> Result<()> {
         let mut payloads = Vec::new(rt.alloc());
         for _ in 0..MOST_SETTLED {

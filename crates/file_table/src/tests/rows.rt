@@ -3,7 +3,7 @@ use crate::{AfterEnd, At, Deed, FileTable, Stand};
 use std::test::Fail;
 use wire_base::{Epoch, Slot};
 
-/// What is told, what the last of it asks for, and how the file stands then; no stand where it left.
+/// The steps, what the last of them asks for, and the state of the file then; no state if it left.
 type Row = (&'static str, &'static [Step], Deed, Option<Stand>);
 
 /// Up to where a tail told that was read to 5.

@@ -4,7 +4,7 @@ use std::alloc::{AllocError, Global};
 use std::test::Fail;
 use wire_base::Slot;
 
-/// What the slow model keeps of what it was told, in order.
+/// What the slow model keeps of the steps that were taken, in order.
 #[derive(Clone, Copy, Debug, PartialEq, Eq)]
 enum Kind {
     Began,
@@ -44,7 +44,7 @@ const NEWS: &[Kind] = &[
     Kind::ShutUnread,
 ];
 
-/// One of the first kinds was told, and none of the others since.
+/// One of the first kinds was taken in, and none of the others since.
 fn since(told: &[Kind], are: &[Kind], ends: &[Kind]) -> bool {
     for kind in told.iter().rev() {
         if are.contains(kind) {
@@ -57,7 +57,7 @@ fn since(told: &[Kind], are: &[Kind], ends: &[Kind]) -> bool {
     false
 }
 
-/// What was told from the last beginning on.
+/// What was taken in from the last beginning on.
 fn life(told: &[Kind]) -> &[Kind] {
     let mut start = 0;
     for (index, kind) in told.iter().enumerate() {
@@ -76,7 +76,7 @@ fn ends(told: &[Kind]) -> bool {
     is_open(told) && since(told, REMOVALS, &[Kind::Opened])
 }
 
-/// How a file stands of which all this was told; none where it is not known.
+/// The state of a file for which all this was taken in; none if it is not known.
 fn stand(told: &[Kind]) -> Option<Stand> {
     if !since(told, STARTS, &[Kind::Gone]) {
         return None;
@@ -188,7 +188,7 @@ fn step_of(digit: u64, other: u64) -> Step {
 #[derive(Drop)]
 struct Model {
     told: Vec<Kind>,
-    /// The scan that showed it last; 99 where none did.
+    /// The scan that showed it last; 99 if none did.
     shown: u64,
 }
 

@@ -53,7 +53,7 @@ pub(crate) fn begun(key: &[u8]) -> Line<'_> {
     }
 }
 
-/// The operation that sets the row, where it is in range.
+/// The operation that sets the row, if it is in range.
 pub(crate) fn setting(rt: &impl Abort, alloc: Global, line: Line<'_>) -> Result<Op, Fail>
     ensures { IfOk result IsOp }
 {

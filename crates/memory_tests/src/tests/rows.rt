@@ -114,7 +114,7 @@ fn note_of(rt: &impl Abort, alloc: Global, step: Step) -> Result<Note, Fail>
     })
 }
 
-/// Tells these steps, one after the other.
+/// Takes these steps, one after the other.
 fn tell(rt: &impl Abort, alloc: Global, told: &mut Told, steps: &[Step]) -> Result<(), Fail>
     requires runs { told.old.world.runs ≡ true }
     requires same { told.old.world.notes ≡ told.old.notes.items }

@@ -30,7 +30,7 @@ fn members(alloc: Global, rows: &[Member]) -> Result<Vec<Seen>, Fail> {
     Ok(members)
 }
 
-/// A change, with a slot first in all but the last, and the values of its fields behind it.
+/// A change, with a slot first in all but the last, and the values of its fields after it.
 enum Told {
     Created(u32, u32, Member),
     Returned(u32, &'static str, u64),
@@ -88,7 +88,7 @@ fn are_told(changes: &[Change], told: &[Told]) -> bool {
 /// The files of a scan, whether it is whole, and its changes.
 type Scan = (&'static [Member], bool, &'static [Told]);
 
-/// The prospector tells the changes of the scan.
+/// The prospector reports the changes of the scan.
 fn tells(alloc: Global, prospector: &mut Prospector, scan: &Scan) -> Result<bool, Fail> {
     let (rows, whole, told) = *scan;
     let seen = members(alloc, rows)?;

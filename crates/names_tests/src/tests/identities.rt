@@ -8,7 +8,7 @@ use std::alloc::Global;
 use std::test::Fail;
 use wire_base::{Moment, Text};
 
-/// An open file of these bytes that tells nothing and gives at most so many bytes a read.
+/// An open file of these bytes, of which nothing is known, and which gives at most this many bytes a read.
 #[derive(Drop)]
 struct BytesTail {
     bytes: Vec<u8>,
@@ -84,7 +84,7 @@ fn opened(
     opened_key(alloc, &input, rule, &path, tail)
 }
 
-/// What an open file of these bytes answers where so many of them, one at least, are asked for.
+/// What an open file of these bytes answers if this many of them, one at least, are asked for.
 fn printed(alloc: Global, bytes: Vec<u8>, most: usize, length: u32) -> Result<Identity, Fail>
     requires { 0 < length }
 {
@@ -96,7 +96,7 @@ fn printed(alloc: Global, bytes: Vec<u8>, most: usize, length: u32) -> Result<Id
     Ok(opened(alloc, &rule, &mut tail)?)
 }
 
-/// The key that is answered, and none where the file is too short.
+/// The key that is answered, and none if the file is too short.
 fn key_of(answer: &Identity) -> &str {
     match answer {
         Identity::Key(key) => key.as_str(),
@@ -125,7 +125,7 @@ fn fingerprint_key(rt: HostRuntime) -> Result<(), Fail> {
     Ok(())
 }
 
-/// A byte, how often it stands in the file, and the digest of the file. Digests of FIPS 180-4's
+/// A byte, how often it is in the file, and the digest of the file. Digests of FIPS 180-4's
 /// examples and of those that NIST added to them.
 const DIGESTS: [(u8, u32, &str); 5] = [
     (

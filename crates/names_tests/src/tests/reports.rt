@@ -85,7 +85,7 @@ fn each_end_has_its_code_and_last_line(rt: HostRuntime) -> Result<(), Fail> {
     Ok(())
 }
 
-/// An end that tells a name: a key of the settings, or the path of a file.
+/// An end that has a name: a key of the settings, or the path of a file.
 #[derive(Clone, Copy)]
 enum Naming {
     Unknown,
@@ -101,7 +101,7 @@ enum Naming {
     Unbuilt,
 }
 
-/// The end of this kind that tells this name.
+/// The end of this kind with this name.
 fn status_of(naming: Naming, key: Text) -> Status {
     match naming {
         Naming::Unknown => Status::Settings(SettingsError::Unknown { key }),
@@ -120,7 +120,7 @@ fn status_of(naming: Naming, key: Text) -> Status {
     }
 }
 
-/// An end, the name that it tells, its number and its last line.
+/// An end, the name that it has, its number and its last line.
 type Named = (Naming, &'static str, u8, &'static str);
 
 const FAULTS: [Named; 8] = [
@@ -202,7 +202,7 @@ const OTHERS: [Named; 5] = [
     (Naming::Unbuilt, KEY, 13, "status 13 unbuilt key a.\"b\"\n"),
 ];
 
-/// Each end is told as its row says.
+/// Each end is reported as its row says.
 fn check_names(rt: &impl Abort, alloc: Global, rows: &[Named]) -> Result<(), Fail> {
     for (naming, name, code, line) in rows {
         let status = status_of(*naming, text(alloc, name)?);

@@ -13,7 +13,7 @@ use std::alloc::Global;
 use std::test::Fail;
 use wire_base::{Blob, Text};
 
-/// The text, where it is a glob.
+/// The text, if it is a glob.
 fn glob(alloc: Global, chars: &str) -> Result<Text, Fail>
     ensures { IfOk result (λ glob. fault_of glob ≡ None) }
 {

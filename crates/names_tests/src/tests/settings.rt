@@ -33,7 +33,7 @@ fn keys(alloc: Global, count: u32) -> Result<String, Fail> {
     Ok(document)
 }
 
-/// The printed fault of a document; none where it has no fault.
+/// The printed fault of a document; none if it has no fault.
 fn fault_of(alloc: Global, document: &[u8]) -> Result<String, Fail> {
     match read_settings(alloc, document) {
         Ok(_) => Ok(String::new(alloc)),

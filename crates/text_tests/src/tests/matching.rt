@@ -72,7 +72,7 @@ const MATCHES: [(&str, &str, bool, bool); 6] = [
     (r"^\[", "[1", true, true),
     (r"^\[", " [", false, false),
     ("é$", "né", true, true),
-    // Found before, behind and inside of a character.
+    // Found before, after and inside of a character.
     ("^|x", "é", true, true),
     ("$|x", "é", true, true),
     (r"(?-u:\B)", "aéa", true, false),

@@ -3,7 +3,7 @@ use std::alloc::Global;
 use std::test::Fail;
 use wire_base::Text;
 
-/// How many bytes of a message are kept where settings do not say it.
+/// How many bytes of a message are kept if settings do not say it.
 pub const DEFAULT_LIMIT: u64 = 10_485_760;
 
 /// The text of these characters.

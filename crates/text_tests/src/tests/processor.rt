@@ -59,7 +59,7 @@ const OUTCOMES: [(&str, &str); 16] = [
         r#"{ add_fields = { target = "error", fields = { message = 1 } } }, { drop_fields = { fields = ["b"] } }"#,
         r#"{"a":"1","error":{"message":1},"log":{"offset":5},"none":null,"tags":["old"],"text":"t"}"#,
     ),
-    // The pair alone is left out.
+    // Only the pair is left out.
     (
         r#"{ rename = { fields = [{ from = "a", to = "text" }, { from = "a", to = "b" }], fail_on_error = false } }"#,
         r#"{"b":"1","log":{"offset":5},"none":null,"tags":["old"],"text":"t"}"#,

@@ -16,7 +16,7 @@ fn tree(alloc: Global) -> Result<Tree, Fail> {
     Ok(Tree::Map(fields))
 }
 
-/// The text that stands at the path.
+/// The text that is at the path.
 fn text_at<'a>(tree: &'a Tree, path: &FieldPath) -> Option<&'a str> {
     match tree.get(path) {
         Some(Tree::Str(text)) => Some(text.as_str()),

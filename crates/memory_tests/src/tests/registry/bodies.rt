@@ -33,7 +33,7 @@ const ESCAPED: Line<'static> = Line {
     changed: MAX_MOMENT,
 };
 
-/// The body of this operation alone is this.
+/// The body of only this operation is this.
 fn check(rt: &impl Abort, alloc: Global, op: Op, wanted: &[u8]) -> Result<(), Fail>
     requires { IsOp op }
 {

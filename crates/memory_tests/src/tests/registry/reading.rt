@@ -132,7 +132,7 @@ fn appended_area_has_exactly_these_bytes(rt: HostRuntime) -> Result<(), Fail> {
     Ok(())
 }
 
-/// A byte within a body may make another body, of other rows; no checksum tells. Every other byte leaves what the area held
+/// A byte within a body may make another body, of other rows; no checksum detects it. Other bytes leave what the area held
 /// before or after a record, or no rows at all.
 #[test]
 fn damaged_area_never_gives_rows_that_were_not_stored(rt: HostRuntime) -> Result<(), Fail> {

@@ -20,7 +20,7 @@ const LATER: &[u8] =
 const ABANDONED: &[u8] =
     b".beat 2 00000000000000000002\n{0000091 [{\"epoch\":0,\"key\":\"filestream::w::path::/w/a.log\",\"offset\":4,\"op\":\"set\",\"path\":\"/w/a.log\"}]\n.";
 
-/// What stands behind the gate of a record with the offset 6.
+/// What is after the gate of a record with the offset 6.
 const RECORD: &[u8] =
     b"0000091 [{\"epoch\":0,\"key\":\"filestream::w::path::/w/a.log\",\"offset\":6,\"op\":\"set\",\"path\":\"/w/a.log\"}]\n.";
 
@@ -57,7 +57,7 @@ impl Stored {
     }
 }
 
-/// The offset of the one row that two areas choose; 0 where there is none.
+/// The offset of the one row that two areas choose; 0 if there is none.
 fn offset_of(alloc: Global, a: &[u8], b: &[u8]) -> Result<u64, StoreError> {
     let mut a = MemDisk::new(alloc, a)?;
     let mut b = MemDisk::new(alloc, b)?;
@@ -110,7 +110,7 @@ fn abandoned_checkpoint_is_never_chosen(rt: HostRuntime) -> Result<(), Fail> {
     Ok(())
 }
 
-/// What an empty commit, one of the offset 6 and another empty one come to where the disk of the first area stops after so
+/// What an empty commit, one of the offset 6 and another empty one come to if the disk of the first area stops after so
 /// many calls, and the image that has the bytes of the last sync.
 fn commits_over(
     rt: &impl Abort,
@@ -190,8 +190,8 @@ fn chosen_of(
     }
 }
 
-/// Ten records of 1,048,576 bytes make the part behind the start exactly as long as it may be; the next commit still appends,
-/// and the one behind it starts B.
+/// Ten records of 1,048,576 bytes make the part after the start exactly as long as it may be; the next commit still appends,
+/// and the one after it starts B.
 #[test]
 fn checkpoint_behind_ten_full_records(rt: HostRuntime) -> Result<(), Fail> {
     let alloc = rt.alloc();

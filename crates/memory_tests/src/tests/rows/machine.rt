@@ -1,4 +1,4 @@
-//! Notes told to the registry machine and to the tracker, each of which may follow those before it.
+//! Notes given to the registry machine and to the tracker, each of which may follow those before it.
 ghost use Rattle.std.specs.Prelude.{◌≡◌, [], true, IfOk, OnOk};
 ghost use Rattle.wire_base.specs.Ranges.{IsNote};
 
@@ -61,7 +61,7 @@ fn copy_of(alloc: Global, note: &Note) -> Result<Note, NoMemory>
     })
 }
 
-/// The machine and the tracker, told the same.
+/// The machine and the tracker, given the same notes.
 #[derive(Drop)]
 pub(crate) struct Told {
     pub(crate) world: World,
@@ -82,7 +82,7 @@ impl Told {
         })
     }
 
-    /// Tells both a note.
+    /// Gives both a note.
     pub(crate) fn note(&mut self, rt: &impl Abort, alloc: Global, note: Note) -> Result<(), Fail>
         requires in_range { IsNote note }
         requires runs { self.old.world.runs ≡ true }

@@ -83,7 +83,7 @@ fn connecting_fails_where_a_list_names_it(rt: HostRuntime) -> Result<(), Fail> {
     Ok(())
 }
 
-/// What a peer in memory answers at the next two receives, where these bytes are sent to it.
+/// What a peer in memory answers at the next two receives, if these bytes are sent to it.
 fn answers_to(alloc: Global, bytes: &[u8]) -> Result<Vec<u8>, Fail> {
     let mut wire = MemWire::new(alloc, Vec::new(alloc))?;
     let mut link = wire.connect(&peer(alloc)?)?;

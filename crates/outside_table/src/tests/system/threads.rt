@@ -3,7 +3,7 @@ use outside_real::{
     DirFolder, FileBell, FileDisk, FileSource, FileTail, StdSink, SystemClock, TcpLink, TcpWire,
 };
 
-/// Every object may be moved to another thread where its handle may.
+/// Every object may be moved to another thread if its handle may.
 fn objects_move_between_threads<R: Send>(
     streams: (&FileSource<R>, &StdSink<R>),
     marks: (&SystemClock<R>, &FileBell<R>),
