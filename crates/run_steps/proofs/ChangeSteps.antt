@@ -53,6 +53,7 @@ use Rattle.run_steps.proofs.ChangedTurns.{ended_on, renamed_on, stirred_on}
 use Rattle.run_steps.proofs.Clocks.{clock_stays}
 use Rattle.run_steps.proofs.FailingRounds.{fail_by_nothing}
 use Rattle.run_steps.proofs.GoesOn.{keeps_by_two}
+use Rattle.run_steps.proofs.Growing.{grown_hearing}
 use Rattle.run_steps.proofs.Grounds.{have_ground}
 use Rattle.run_steps.proofs.Having.{have_still, some_still}
 use Rattle.run_steps.proofs.LettingGo.{with_these}
@@ -265,7 +266,8 @@ module _ {T W L D F K B : Type 0} (words : StepWords T W L D F K B) where
     where
       onward : Onward words.all (rules_of context) (state_at words now) (state_at words (with_lanes now lanes))
       onward start so_far by stands began =
-          record { so_far = _; stands = stands_still words context now lanes start so_far stands (stirred_reads words context now lanes start so_far stands slot (lanings lanes.items) change) }
+          let still = stirred_reads words context now lanes start so_far stands slot (lanings lanes.items) change in
+          record { so_far = _; stands = stands_still words context now lanes start so_far stands still; grown = grown_hearing so_far still.lanes }
 
   module _ (context : Context) (slot : Slot) (now : Stop T W L D F K B) (lanes : Vec (Lane T) Global) (ready : IsReadyAt words context now)
       (ends : EndsFile words.all.tails slot (lanings now.crew.lanes.items) (lanings lanes.items)) where
@@ -294,7 +296,8 @@ module _ {T W L D F K B : Type 0} (words : StepWords T W L D F K B) where
       where
         onward : Onward words.all (rules_of context) (state_at words now) (state_at words (with_lanes now lanes))
         onward start so_far by stands began =
-            record { so_far = _; stands = stands_still words context now lanes start so_far stands (ended_reads words context now lanes start so_far stands slot ends (known start so_far by stands)) }
+            let still = ended_reads words context now lanes start so_far stands slot ends (known start so_far by stands) in
+            record { so_far = _; stands = stands_still words context now lanes start so_far stands still; grown = grown_hearing so_far still.lanes }
 
   pub ends_are_changes : EndsAreChanges words
   ends_are_changes context slot now lanes ready ends = ends_change context slot now lanes ready ends

@@ -24,20 +24,23 @@ use Rattle.run_steps.specs.MetBy.{IsOverOf, SomeHarvester}
 use Rattle.run_steps.specs.Onward.{Onward, RunRules}
 use Rattle.run_steps.specs.RunState.{Finished, OutOfEpochs, Phase, Reading, RunState, within}
 use Rattle.run_steps.specs.Stands.{ReadsYet}
+use Rattle.run_steps.proofs.Growing.{grown_by_nothing, grown_by_two}
 use Rattle.run_steps.proofs.Rounding.{stands_on}
 use Rattle.run_steps.proofs.Settling.{stands_settled}
 
 module _ {T W L D : Type 0} (words : Words T W L D) where
   pub onward_by_nothing : (rules : RunRules) (state : RunState T W L D) → Onward words rules state state
   unfolding Onward
-  onward_by_nothing rules state start so_far same stands at_rest = record { so_far = so_far; stands = stands }
+  onward_by_nothing rules state start so_far same stands at_rest = record { so_far = so_far; stands = stands; grown = grown_by_nothing so_far }
 
   -- where the areas are at rest behind the first
   pub onward_by_two : (rules : RunRules) (first mid last : RunState T W L D) → (IsAtRest words.disks first.keeper first.a first.b → IsAtRest words.disks mid.keeper mid.a mid.b) →
       Onward words rules first mid → Onward words rules mid last → Onward words rules first last
   unfolding Onward
   onward_by_two rules first mid last at_rest one other start so_far same stands began =
-      let further = one start so_far same stands began in other start further.so_far same further.stands (λ at_start. at_rest (began at_start))
+      let further = one start so_far same stands began in
+      let then = other start further.so_far same further.stands (λ at_start. at_rest (began at_start)) in
+      record { so_far = then.so_far; stands = then.stands; grown = grown_by_two so_far further.so_far then.so_far further.grown then.grown }
 
   module _ (reads : (disk : D) → IfSome (words.disks.contents disk) (words.disks.images disk))
       (counts : (disk : D) (since : ℕ) (image : List ℕ) → since ≤ words.disks.moment disk → words.disks.images disk image → words.disks.images_since disk since image)

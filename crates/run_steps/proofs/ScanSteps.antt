@@ -31,6 +31,7 @@ use Rattle.run_steps.proofs.CarriersGoOn.{carriers_by_nothing}
 use Rattle.run_steps.proofs.Clocks.{clock_stays}
 use Rattle.run_steps.proofs.FailingRounds.{fail_by_nothing}
 use Rattle.run_steps.proofs.Giving.{GivenOn, given_on}
+use Rattle.run_steps.proofs.Growing.{grown_scanning}
 use Rattle.run_steps.proofs.Lanes.{lanes_later}
 use Rattle.run_steps.proofs.EarlierOn.{earlier_later}
 use Rattle.run_steps.proofs.LaterScans.{scans_on}
@@ -184,7 +185,7 @@ module _ {T W L D F K B : Type 0} (words : StepWords T W L D F K B) (context : C
 
   onward : Onward words.all (rules_of context) (state_at words now) (state_at words after)
   unfolding Onward
-  onward start so_far by stands began = let more = one_more start so_far by stands in record { so_far = _; stands = more.stands }
+  onward start so_far by stands began = let one = one_more start so_far by stands in record { so_far = _; stands = one.stands; grown = grown_scanning so_far one.more (later_scan scan one.told) }
 
   pub goes_scanning : Goes words context None now after
   goes_scanning = record { keeps = keeps; onward = onward }

@@ -13,7 +13,7 @@ use Rattle.accounts.specs.Turning.{IsTurnedSo}
 use Rattle.accounts.specs.Watch.{Watch}
 use Rattle.accounts.proofs.Backing.{mapped_there}
 use Rattle.accounts.proofs.Grounded.{each_member}
-use Rattle.accounts.proofs.Joining.{told_as_often}
+use Rattle.accounts.proofs.Joining.{same_slot, told_as_often, tells_slots}
 use Rattle.accounts.proofs.Lists.{each_last}
 use Rattle.accounts.proofs.Often.{often_back, often_contains, often_then, once_apart, once_more, once_none, once_often}
 use Rattle.accounts.proofs.Orderly.{member_is}
@@ -43,6 +43,7 @@ use Rattle.run_steps.specs.Began.{Began}
 use Rattle.run_steps.specs.Begun.{AreSlotsFrom}
 use Rattle.run_steps.specs.Earlier.{IsEarlierSo}
 use Rattle.run_steps.specs.ClosesTail.{ClosesTail, ClosesTails, LetsGoAt, Readers}
+use Rattle.run_steps.specs.Growing.{IsGrownFrom}
 use Rattle.run_steps.specs.LastEpoch.{AreToldInEpochs, HasAnswered, HaveOneOver, IsAnswered, IsLastOver}
 use Rattle.run_steps.specs.Looking.{HasLooked, SomeHasLooked}
 use Rattle.run_steps.specs.Releasing.{closing_of, with_events}
@@ -59,8 +60,8 @@ use Rattle.run_steps.proofs.AreRead.{read_now, read_still}
 use Rattle.run_steps.proofs.Admitting.{booked_by, often_mapped, placed_by, spans_often}
 use Rattle.run_steps.proofs.Causing.{some_parted}
 use Rattle.run_steps.proofs.Closing.{closed_as_it_was, closed_now, closed_still, closes_its, closes_no_other, open_still}
-use Rattle.accounts.proofs.Joining.{same_slot, tells_slots}
 use Rattle.run_steps.proofs.First.{got_within}
+use Rattle.run_steps.proofs.Growing.{grown_by_nothing, grown_by_two, grown_closing}
 use Rattle.run_steps.proofs.Grounds.{all_backed}
 use Rattle.run_steps.proofs.InEpochs.{told_in_epochs}
 use Rattle.run_steps.proofs.LastOver.{some_behind, some_first}
@@ -146,6 +147,7 @@ module _ {T W L D : Type 0} (words : Words T W L D) (start : Began D) (moments :
   -- and what was noted is the same
   pub record ReadsOn (so_far : SoFar) (old now : Readers T) : Type 0 where
     pub later : SoFar
+    pub grown : IsGrownFrom so_far later
     pub reads : Reads later now
     pub same_notes : notes_of later ≡ notes_of so_far
     pub looked : SomeLooked so_far old → SomeLooked later now
@@ -394,8 +396,7 @@ module _ {T W L D : Type 0} (words : Words T W L D) (start : Began D) (moments :
           by_case : (first now then : Option FolderHistory) → then ≡ with_events (closing_of told (words.tails.faults one.tail)) now → HasShown start.settings first now (files_of so_far) → HasShown start.settings first then (files_of after)
           by_case None now then is shown = is ∙ ap (with_events (closing_of told (words.tails.faults one.tail))) shown
           by_case (Some first) None then is shown = absurd shown
-          by_case (Some first) (Some now) then is shown =
-              subst (λ (o : Option FolderHistory). HasShown start.settings (Some first) o (files_of after)) (sym is) (has_done (words.tails.faults one.tail) first now shown told its.is.is_told.tail refl)
+          by_case (Some first) (Some now) then is shown = subst (λ (o : Option FolderHistory). HasShown start.settings (Some first) o (files_of after)) (sym is) (has_done (words.tails.faults one.tail) first now shown told its.is.is_told.tail refl)
 
       -- behind each look at its length it was read, if it counted no fault
       its_read : IfSome told (λ (tail : TailHistory). words.tails.faults one.tail ≡ 0 → ReadsBehind false file.history.begin.base tail.looks) → ReadsYet phase → IsSome start.shown →
@@ -492,9 +493,8 @@ module _ {T W L D : Type 0} (words : Words T W L D) (start : Began D) (moments :
 
     -- one behind the other
     pub reads_on : (closed : List (Harvester T)) (so_far : SoFar) (old new : Readers T) → ClosesTails words.tails closed old new → Reads so_far old → ReadsOn so_far old new
-    reads_on [] so_far old new same reads =
-        record { later = so_far; reads = subst (Reads so_far) (sym same) reads; same_notes = refl; looked = λ some. subst (SomeLooked so_far) (sym same) some }
+    reads_on [] so_far old new same reads = record { later = so_far; grown = grown_by_nothing so_far; reads = subst (Reads so_far) (sym same) reads; same_notes = refl; looked = λ some. subst (SomeLooked so_far) (sym same) some }
     reads_on (one ∷ more) so_far old new closes reads =
         let first = reads_without so_far one old closes.0 closes.1 reads in
         let rest = reads_on more (after so_far one old closes.0 closes.1 reads) closes.0 new closes.2 first in
-        record { later = rest.later; reads = rest.reads; same_notes = rest.same_notes; looked = λ some. rest.looked (looked_still so_far one old closes.0 closes.1 reads some) }
+        record { later = rest.later; grown = grown_by_two so_far (after so_far one old closes.0 closes.1 reads) rest.later (grown_closing so_far _ _) rest.grown; reads = rest.reads; same_notes = rest.same_notes; looked = λ some. rest.looked (looked_still so_far one old closes.0 closes.1 reads some) }

@@ -16,11 +16,13 @@ use Rattle.settle_box.specs.Senders.{notes}
 use Rattle.run_steps.specs.Began.{Began}
 use Rattle.run_steps.specs.ClosesTail.{ClosesTails, Readers}
 use Rattle.run_steps.specs.FolderSeen.{FolderSeen}
+use Rattle.run_steps.specs.Growing.{StandsGrown}
 use Rattle.run_steps.specs.LastEpoch.{HaveOneOver}
 use Rattle.run_steps.specs.Onward.{Onward, RunRules}
 use Rattle.run_steps.specs.RunState.{Finished, Halted, Leaving, OutOfEpochs, Phase, Reading, RunState, phase_left, within}
 use Rattle.run_steps.specs.SoFar.{FilesSoFar, SoFar, books_of, files_of, files_within}
-use Rattle.run_steps.specs.Stands.{Books, Files, FilesNow, Further, MayTell, Notes, ReadsYet, Stands}
+use Rattle.run_steps.specs.Stands.{Books, Files, FilesNow, MayTell, Notes, ReadsYet, Stands}
+use Rattle.run_steps.proofs.Growing.{grown_by_nothing, grown_by_two}
 use Rattle.run_steps.proofs.TailClosed.{books_at, files_at, reads_on}
 
 -- ---- a run that reads may leave
@@ -84,17 +86,21 @@ module _ {T W L D : Type 0} (words : Words T W L D) where
 
   -- whatever the areas hold
   abbrev pub GoesOnStanding : RunState T W L D → RunState T W L D → Type 0
-  GoesOnStanding before after = (start : Began D) (so_far : SoFar) → Stands words start before so_far → Further words start after
+  GoesOnStanding before after = (start : Began D) (so_far : SoFar) → Stands words start before so_far → StandsGrown words start so_far after
 
   pub onward_then : (rules : RunRules) (first mid last : RunState T W L D) → Onward words rules first mid → GoesOnStanding mid last → Onward words rules first last
   unfolding Onward
-  onward_then rules first mid last one then start so_far same stands began = let further = one start so_far same stands began in then start further.so_far further.stands
+  onward_then rules first mid last one then start so_far same stands began =
+      let further = one start so_far same stands began in
+      let after = then start further.so_far further.stands in
+      record { so_far = after.so_far; stands = after.stands; grown = grown_by_two so_far further.so_far after.so_far further.grown after.grown }
 
   -- whatever it was
   pub leaving_onward : (shown : Option FolderHistory) (moments : Option (List ℕ)) (crew : Crew T W L) (storing : Storing D) (phase : Phase) →
       GoesOnStanding (within shown moments crew storing phase) (within shown moments crew storing Leaving)
   leaving_onward shown moments crew storing phase start so_far stands = record {
     so_far = so_far;
+    grown = grown_by_nothing so_far;
     stands = record {
       files = record {
         opened = stands.files.opened;
@@ -127,6 +133,7 @@ module _ {T W L D : Type 0} (words : Words T W L D) where
       GoesOnStanding (within old.told moments crew storing phase) (within new.told moments (record crew { lanes = lanes }) storing phase)
   same_onward old new moments crew lanes storing phase same start so_far stands = record {
     so_far = so_far;
+    grown = grown_by_nothing so_far;
     stands = record {
       files = subst (λ (now : Readers T). Files words.tails start (files_at words start moments crew.carriers.items (notes storing.keeper.now.pass.got) phase now) (files_of so_far)) (sym same) stands.files;
       books = subst (λ (now : Readers T). Books words.links words.wires start.heard (books_at words start moments crew.carriers.items (notes storing.keeper.now.pass.got) phase now) (books_of so_far)) (sym same) stands.books;
@@ -146,6 +153,7 @@ module _ {T W L D : Type 0} (words : Words T W L D) where
       (record { files = files_left start (files_at words start moments crew.carriers.items (notes storing.keeper.now.pass.got) phase before) (files_of so_far) stands.files; books = stands.books }) in
       record {
         so_far = on.later;
+        grown = on.grown;
         stands = record {
           files = on.reads.files;
           books = on.reads.books;

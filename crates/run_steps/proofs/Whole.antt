@@ -40,6 +40,7 @@ use Rattle.run_steps.specs.declared.begin_error.BeginError.TheVariants as begin
 use Rattle.run_steps.specs.declared.beginning.BegunFiles.{BegunFiles}
 use Rattle.run_steps.specs.declared.met.Met.{Met}
 use Rattle.run_steps.specs.declared.met.Met.TheVariants.{DiskFault, Done, Epochs, FolderFault, NoMemory, Stopped, Unreachable, NoNative}
+use Rattle.run_steps.proofs.Growing.{further}
 use Rattle.run_steps.proofs.ReadersGo.{rose_on, rose_since}
 
 -- ---- whether the last steps are left
@@ -162,11 +163,12 @@ module _ {T W L D : Type 0} (words : Words T W L D) (start : Began D) (begun : R
 
     after_rounds : Further words start (within later then two first phase)
     unfolding Onward
-    after_rounds = steps.followed start so_far same stands began
+    after_rounds = further words start (within later then two first phase) so_far (steps.followed start so_far same stands began)
 
     after_all : Further words start (within later then three second phase)
     unfolding Onward
-    after_all = ⊎_elim (λ left. steps.settled later then phase start after_rounds.so_far same after_rounds.stands (λ at_start. steps.at_rest left (began at_start)))
+    after_all = ⊎_elim (λ left. further words start (within later then three second phase) after_rounds.so_far
+        (steps.settled later then phase start after_rounds.so_far same after_rounds.stands (λ at_start. steps.at_rest left (began at_start))))
         (λ not. let same = steps.still not in
         subst (λ (s : Storing D). Further words start (within later then three s phase)) (sym same.1)
         (subst (λ (c : Crew T W L). Further words start (within later then c first phase)) (sym same.0) after_rounds)) (left_or_not met)

@@ -22,6 +22,7 @@ pub mod FirstLook
 pub mod FolderSeen
 pub mod FollowedOrSkipped
 pub mod Goes
+pub mod Growing
 pub mod HiddenRows
 pub mod KnownKeys
 pub mod LastEpoch
