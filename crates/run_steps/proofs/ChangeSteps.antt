@@ -32,9 +32,9 @@ use Rattle.wire_base.specs.declared.numbers.Slot.{Slot}
 use Rattle.rounds.specs.Pairs.{SomeOf}
 use Rattle.run_steps.specs.Began.{Began}
 use Rattle.run_steps.specs.CarriersFail.{sending}
-use Rattle.run_steps.specs.ChangeSteps.{EndsAreChanges, EndsAreSteps, IsChange, IsReadyAt, IsSupposedAt, RenamesAreChanges, StandsWith, StirsAreSteps, lanes_and_keeper, with_keeper, with_lanes}
+use Rattle.run_steps.specs.ChangeSteps.{EndsAreChanges, IsChange, IsReadyAt, RenamesAreChanges, StandsWith, StirsAreChanges, StirsAreSteps, lanes_and_keeper, with_keeper, with_lanes}
 use Rattle.run_steps.specs.Changing.{ChangesAt, ChangesOf, EndsFile, NamesFile, rename_note}
-use Rattle.run_steps.specs.Goes.{Goes, Keeps, RestsAt, StepWords, Stop, moments_at, state_at}
+use Rattle.run_steps.specs.Goes.{Keeps, RestsAt, StepWords, Stop, moments_at, state_at}
 use Rattle.run_steps.specs.LaterScans.{LaterScan}
 use Rattle.run_steps.specs.MetBy.{HasFaults, SomeHarvester}
 use Rattle.run_steps.specs.Onward.{Onward, rules_of}
@@ -222,6 +222,14 @@ module _ {T W L D F K B : Type 0} (words : StepWords T W L D F K B) (context : C
     stands_still : (still : StillReads so_far new_lanes) → Stands words.all start (state_at words (with_lanes now lanes)) (record so_far { lanes = still.lanes })
     stands_still still = record { files = still.reads.files; books = still.reads.books; notes = stands.notes; areas = stands.areas }
 
+    -- and nothing was told
+    stands_untold : StillReads so_far new_lanes → StandsWith words context start (with_lanes now lanes) so_far []
+    stands_untold still = record {
+      lanes = still.lanes;
+      stands = subst (λ (l : List Note). Stands words.all start (state_at words (with_lanes now lanes)) (record so_far { lanes = still.lanes; begun = l })) (sym (append-nil so_far.begun))
+          (stands_still still);
+    }
+
     stirred_reads : (slot : Slot) (new : List (Laning T)) → ChangesOf slot HasStirred old_lanes new → StillReads so_far new
     stirred_reads slot new change =
         let is = change.changes.changes in
@@ -269,6 +277,14 @@ module _ {T W L D F K B : Type 0} (words : StepWords T W L D F K B) where
           let still = stirred_reads words context now lanes start so_far stands slot (lanings lanes.items) change in
           record { so_far = _; stands = stands_still words context now lanes start so_far stands still; grown = grown_hearing so_far still.lanes }
 
+  pub stirs_are_changes : StirsAreChanges words
+  stirs_are_changes context slot now lanes ready change = record {
+    keeps = keeps_heard words context now lanes now.storing.keeper.now [] (hear_stirred words.all.tails _ slot (lanings now.crew.lanes.items) (lanings lanes.items) change)
+        (none_told now.storing.keeper.now) ready {Keepers = TellsNotes []} (none_told now.storing.keeper.now);
+    changed = λ start so_far by stands supposed.
+        stands_untold words context now lanes start so_far stands (stirred_reads words context now lanes start so_far stands slot (lanings lanes.items) change);
+  }
+
   module _ (context : Context) (slot : Slot) (now : Stop T W L D F K B) (lanes : Vec (Lane T) Global) (ready : IsReadyAt words context now)
       (ends : EndsFile words.all.tails slot (lanings now.crew.lanes.items) (lanings lanes.items)) where
     hear_ends : HearOnly words.all.tails (lanings now.crew.lanes.items) (lanings lanes.items)
@@ -279,31 +295,11 @@ module _ {T W L D F K B : Type 0} (words : StepWords T W L D F K B) where
     ends_change = record {
       keeps = keeps_heard words context now lanes now.storing.keeper.now [] hear_ends (none_told now.storing.keeper.now) ready {Keepers = TellsNotes []} (none_told now.storing.keeper.now);
       changed = λ start so_far by stands removed.
-          let still = ended_reads words context now lanes start so_far stands slot ends removed in
-          record {
-            lanes = still.lanes;
-            stands = subst (λ (l : List Note). Stands words.all start (state_at words (with_lanes now lanes)) (record so_far { lanes = still.lanes; begun = l })) (sym (append-nil so_far.begun))
-                (stands_still words context now lanes start so_far stands still);
-          };
+          stands_untold words context now lanes start so_far stands (ended_reads words context now lanes start so_far stands slot ends removed);
     }
-
-    ends_go : IsSupposedAt words context (IsRemovedSince slot) now → Goes words context None now (with_lanes now lanes)
-    unfolding Onward
-    ends_go known = record {
-      keeps = keeps_heard words context now lanes now.storing.keeper.now [] hear_ends (none_told now.storing.keeper.now) ready {Keepers = Collects} (collects_none now.storing.keeper.now);
-      onward = onward;
-    }
-      where
-        onward : Onward words.all (rules_of context) (state_at words now) (state_at words (with_lanes now lanes))
-        onward start so_far by stands began =
-            let still = ended_reads words context now lanes start so_far stands slot ends (known start so_far by stands) in
-            record { so_far = _; stands = stands_still words context now lanes start so_far stands still; grown = grown_hearing so_far still.lanes }
 
   pub ends_are_changes : EndsAreChanges words
   ends_are_changes context slot now lanes ready ends = ends_change context slot now lanes ready ends
-
-  pub ends_are_steps : EndsAreSteps words
-  ends_are_steps context slot now lanes ready ends known = ends_go context slot now lanes ready ends known
 
   module _ (reads : (disk : D) → IfSome (words.all.disks.contents disk) (words.all.disks.images disk))
       (counts : (disk : D) (at : ℕ) (image : List ℕ) → at ≤ words.all.disks.moment disk → words.all.disks.images disk image → words.all.disks.images_since disk at image) where

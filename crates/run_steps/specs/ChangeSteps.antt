@@ -1,6 +1,6 @@
 -- What a run does with one of its files between two rounds, as a step of it (this project's profile): by which notes it tells its keeper of it, and what
 -- it supposes of the scans so far and of the files that were opened. What stood before it stands after it, with those notes, and with some histories
--- of its lanes. If it tells nothing, and what it supposes is known of whatever stands, it is a step as each other one.
+-- of its lanes. If it tells nothing and supposes nothing, it is a step as each other one, too.
 use Rattle.std.specs.Prelude.{List, [], ◌∷◌, ◌++◌, Vec, None}
 use Rattle.std.specs.declared.alloc.Global.{Global}
 use Rattle.accounts.specs.Opened.{Opened}
@@ -47,16 +47,20 @@ module _ {T W L D F K B : Type 0} (words : StepWords T W L D F K B) (context : C
     pub changed : (start : Began D) (so_far : SoFar) → BeganBy (rules_of context) start → Stands words.all start (state_at words before) so_far →
         Supposes so_far.scans so_far.earlier so_far.opened → StandsWith start after so_far notes
 
-  -- what it supposes is known
-  abbrev pub IsSupposedAt : (List LaterScan → List Earlier → List Opened → Type 0) → Stop T W L D F K B → Type 0
-  IsSupposedAt Supposes now = (start : Began D) (so_far : SoFar) → BeganBy (rules_of context) start → Stands words.all start (state_at words now) so_far →
-      Supposes so_far.scans so_far.earlier so_far.opened
-
   abbrev pub IsReadyAt : Stop T W L D F K B → Type 0
   IsReadyAt now = IsReadyIn words.all.tails context (crewing now.crew now.storing)
 
+-- it supposes nothing
+abbrev pub SupposesNothing : List LaterScan → List Earlier → List Opened → Type 0
+SupposesNothing scans earlier opened = Unit {0}
+
 module _ {T W L D F K B : Type 0} (words : StepWords T W L D F K B) where
   -- a file of which something was heard
+  abbrev pub StirsAreChanges : Type 0
+  StirsAreChanges = (context : Context) (slot : Slot) (now : Stop T W L D F K B) (lanes : Vec (Lane T) Global) → IsReadyAt words context now →
+      StirsFile slot (lanings now.crew.lanes.items) (lanings lanes.items) → IsChange words context SupposesNothing [] now (with_lanes now lanes)
+
+  -- which is a step as each other one, too
   abbrev pub StirsAreSteps : Type 0
   StirsAreSteps = (context : Context) (slot : Slot) (now : Stop T W L D F K B) (lanes : Vec (Lane T) Global) → IsReadyAt words context now →
       StirsFile slot (lanings now.crew.lanes.items) (lanings lanes.items) → Goes words context None now (with_lanes now lanes)
@@ -65,11 +69,6 @@ module _ {T W L D F K B : Type 0} (words : StepWords T W L D F K B) where
   abbrev pub EndsAreChanges : Type 0
   EndsAreChanges = (context : Context) (slot : Slot) (now : Stop T W L D F K B) (lanes : Vec (Lane T) Global) → IsReadyAt words context now →
       EndsFile words.all.tails slot (lanings now.crew.lanes.items) (lanings lanes.items) → IsChange words context (IsRemovedSince slot) [] now (with_lanes now lanes)
-
-  -- where that is known, it is a step as each other one
-  abbrev pub EndsAreSteps : Type 0
-  EndsAreSteps = (context : Context) (slot : Slot) (now : Stop T W L D F K B) (lanes : Vec (Lane T) Global) → IsReadyAt words context now →
-      EndsFile words.all.tails slot (lanings now.crew.lanes.items) (lanings lanes.items) → IsSupposedAt words context (IsRemovedSince slot) now → Goes words context None now (with_lanes now lanes)
 
   -- one that has another path
   abbrev pub RenamesAreChanges : Type 0

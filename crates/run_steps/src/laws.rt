@@ -1,5 +1,5 @@
 ghost use Rattle.std.specs.Prelude.{◌≤◌, ℕ, IfSome, List};
-ghost use Rattle.run_steps.specs.ChangeSteps.{EndsAreChanges, EndsAreSteps, RenamesAreChanges, StirsAreSteps};
+ghost use Rattle.run_steps.specs.ChangeSteps.{EndsAreChanges, RenamesAreChanges, StirsAreChanges, StirsAreSteps};
 ghost use Rattle.run_steps.specs.Goes.{step_words};
 ghost use Rattle.run_steps.specs.ReopeningSteps.{OpeningsAgainAreSteps};
 ghost use Rattle.run_steps.specs.ScanSteps.{ScansAreSteps};
@@ -20,16 +20,16 @@ pub fn scans_again_are_steps<F: Folder, L: Link, W: Wire<Link = L>, D: Disk, K: 
         (step_words F.Folder F.Tail.Tail L.Link W.Wire D.Disk K.Clock B.Bell) }
 {}
 
-/// What a run does with one of its files between two rounds is a step of it. After it stirs the file, a run that stood stands. After it
-/// asks the file's harvester to end, or gives it a new path and tells the keeper that, what stood before stands, with that note. It
-/// supposes that a whole scan after the file's last opening missed it before its harvester is asked to end, and that the newest scan
-/// listed the file by its new path and by no other. A law; it computes nothing.
+/// What a run does with one of its files between two rounds is a step of it. After it stirs the file, or asks its harvester to end, what
+/// stood before stands; after it gives the file a new path and tells the keeper that, so it does, with that note. To stir a file supposes
+/// nothing. A whole scan after the file's last opening missed it before its harvester is asked to end, and the newest scan listed the
+/// file by its new path and by no other before it is renamed. A law; it computes nothing.
 pub fn changes_are_steps<F: Folder, L: Link, W: Wire<Link = L>, D: Disk, K: Clock, B: Bell>()
-    ensures stirs { StirsAreSteps
+    ensures stirs { StirsAreChanges
+        (step_words F.Folder F.Tail.Tail L.Link W.Wire D.Disk K.Clock B.Bell) }
+    ensures stirs_go { StirsAreSteps
         (step_words F.Folder F.Tail.Tail L.Link W.Wire D.Disk K.Clock B.Bell) }
     ensures ends { EndsAreChanges
-        (step_words F.Folder F.Tail.Tail L.Link W.Wire D.Disk K.Clock B.Bell) }
-    ensures ends_go { EndsAreSteps
         (step_words F.Folder F.Tail.Tail L.Link W.Wire D.Disk K.Clock B.Bell) }
     ensures renames { RenamesAreChanges
         (step_words F.Folder F.Tail.Tail L.Link W.Wire D.Disk K.Clock B.Bell) }
