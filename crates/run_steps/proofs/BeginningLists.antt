@@ -31,7 +31,8 @@ use Rattle.run_steps.proofs.Admitting.{each_still}
 use Rattle.run_steps.proofs.Keeps.{BeginKeeps, TakesOne, as_many_lanes, begin_keeps, carriers_kept, keeper_others, one_note_more, pace_kept}
 use Rattle.run_steps.proofs.KnownKeys.{IsOfKeys, of_front, told_knows}
 use Rattle.run_steps.proofs.Notes.{moments_are_told}
-use Rattle.run_steps.proofs.Tails.{as_many_harvesters, as_many_open, followed_by}
+use Rattle.run_steps.specs.OpeningKeeps.{followed_by}
+use Rattle.run_steps.proofs.Tails.{as_many_harvesters, as_many_open}
 use Rattle.run_steps.proofs.ReadersGo.{rose_on, rose_since}
 use Rattle.run_steps.specs.declared.begin.Admission.{Admission}
 use Rattle.run_steps.specs.declared.begin.Admission.TheVariants.{Failed, Followed, Skipped}

@@ -29,7 +29,8 @@ use Rattle.run_steps.specs.declared.beginning.BegunFiles.{BegunFiles}
 use Rattle.run_steps.proofs.BegunReady.{through}
 use Rattle.run_steps.proofs.Keeps.{begin_keeps}
 use Rattle.run_steps.proofs.RunTails.{none_begun}
-use Rattle.run_steps.proofs.Tails.{as_many_harvesters, followed_by}
+use Rattle.run_steps.specs.OpeningKeeps.{followed_by}
+use Rattle.run_steps.proofs.Tails.{as_many_harvesters}
 
 -- ---- lanes hold nothing
 

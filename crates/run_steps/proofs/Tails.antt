@@ -10,25 +10,19 @@ use Rattle.rounds.specs.Crewed.{lanings}
 use Rattle.rounds.specs.Words.{TailWords}
 use Rattle.rounds.specs.declared.crew.Crew.{Crew}
 use Rattle.run_steps.specs.Beginning.{AdmitsAt, Beginning, BeginsOne, ClosesFile, ListedFile}
+use Rattle.run_steps.specs.OpeningKeeps.{followed_by}
 use Rattle.run_steps.specs.Releasing.{harvesters_of}
 use Rattle.run_steps.specs.declared.begin_error.BeginError.{BeginError}
 use Rattle.run_steps.specs.declared.begin_error.BeginError.TheVariants.{FolderFault, NoMemory, NoNative}
 use Rattle.run_steps.specs.declared.begin.Admission.{Admission}
 use Rattle.run_steps.specs.declared.begin.Admission.TheVariants.{Failed, Followed, Skipped}
 
--- how many files are followed by this answer
-abbrev pub followed_by : Result Admission BeginError → ℕ
-followed_by (Ok Followed) = 1
-followed_by (Ok (Skipped why)) = 0
-followed_by (Ok Failed) = 0
-followed_by (Err error) = 0
-
 many_in : {T : Type 0} (front back : List (Laning T)) (lane : Laning T) → length (harvesters_of (front ++ lane ∷ back)) ≡ length (harvesters_of front) + (length lane.harvesters + length (harvesters_of back))
 many_in [] back lane = omega (arith, length-append lane.harvesters (harvesters_of back))
 many_in (first ∷ front) back lane =
     omega (arith, length-append first.harvesters (harvesters_of (front ++ lane ∷ back)), length-append first.harvesters (harvesters_of front), many_in front back lane)
 
-one_harvester_more : {T : Type 0} (number : ℕ) (harvester : Harvester T) (old new : List (Laning T)) → AdmitsAt number harvester old new → length (harvesters_of new) ≡ length (harvesters_of old) + 1
+pub one_harvester_more : {T : Type 0} (number : ℕ) (harvester : Harvester T) (old new : List (Laning T)) → AdmitsAt number harvester old new → length (harvesters_of new) ≡ length (harvesters_of old) + 1
 one_harvester_more number harvester old new admits =
     let lane = admits.lane in
     let after : Laning _ = record lane { harvesters = lane.harvesters ++ harvester ∷ [] } in

@@ -35,6 +35,7 @@ pub mod MetBy
 pub mod MetIn
 pub mod Onward
 pub mod OpenedAgain
+pub mod OpeningKeeps
 pub mod Outset
 pub mod PassedOver
 pub mod Questions

@@ -1,6 +1,7 @@
 ghost use Rattle.std.specs.Prelude.{◌≤◌, ℕ, IfSome, List};
 ghost use Rattle.run_steps.specs.ChangeSteps.{EndsAreChanges, RenamesAreChanges, StirsAreChanges, StirsAreSteps};
 ghost use Rattle.run_steps.specs.Goes.{step_words};
+ghost use Rattle.run_steps.specs.OpeningKeeps.{OpeningsAgainKeep};
 ghost use Rattle.run_steps.specs.ReopeningSteps.{OpeningsAgainAreSteps};
 ghost use Rattle.run_steps.specs.ScanSteps.{ScansAreSteps};
 
@@ -38,9 +39,12 @@ pub fn changes_are_steps<F: Folder, L: Link, W: Wire<Link = L>, D: Disk, K: Cloc
 }
 
 /// A file that is opened again is a step of each run that closed its last tail and reads on: what stood before it stands after it, with
-/// one more opening before the last ones if the file is followed. A law; it computes nothing.
+/// one more opening before the last ones if the file is followed. It keeps what each other step keeps, but that a harvester of the
+/// file's slot may come, with one more open tail. A law; it computes nothing.
 pub fn openings_again_are_steps<F: Folder, L: Link, W: Wire<Link = L>, D: Disk, K: Clock, B: Bell>()
-    ensures { OpeningsAgainAreSteps
+    ensures steps { OpeningsAgainAreSteps
+        (step_words F.Folder F.Tail.Tail L.Link W.Wire D.Disk K.Clock B.Bell) }
+    ensures keeps { OpeningsAgainKeep
         (step_words F.Folder F.Tail.Tail L.Link W.Wire D.Disk K.Clock B.Bell) }
 {
     disk_images_are_counted::<D>();
