@@ -164,6 +164,19 @@ closed_last_still last before after grown closed = record {
   may = closed.may;
 }
 
+-- nor does it matter what harvesters heard of their files, or what the run told its keeper
+pub closed_last_changed : (last : Opened) (so_far : SoFar) (lanes : List (List Turned)) (begun : List Note) → IsClosedLast (files_of so_far) last →
+    IsClosedLast (files_of (record so_far { lanes = lanes; begun = begun })) last
+closed_last_changed last so_far lanes begun closed = record {
+  among = closed.among;
+  before = closed.before;
+  left = closed.left;
+  behind = closed.behind;
+  left_are = closed.left_are;
+  slot_is = closed.slot_is;
+  may = closed.may;
+}
+
 -- and where it goes on
 pub known_still : (known : KnownFile) (last : Opened) (before after : SoFar) (grown : IsGrownFrom before after) (closed : IsClosedLast (files_of before) last) →
     IsKnownAs known before last closed → IsKnownAs known after last (closed_last_still last before after grown closed)
