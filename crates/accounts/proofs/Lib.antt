@@ -51,6 +51,7 @@ pub mod Parts
 pub mod Placed
 pub mod Places
 pub mod Placing
+pub mod PutBefore
 pub mod Removing
 pub mod Reopened
 pub mod Runs

@@ -136,11 +136,11 @@ pub record IsSoFar (epoch base : ℕ) (so_far last : History) : Type 0 where
 pub first_so_far : (epoch base : ℕ) (h : History) → AreEpochsFrom epoch base (tellings_in h) → EachAdjoins (tellings_in h) → IsSoFar epoch base h h
 first_so_far epoch base h epochs adjoin = record { epochs = epochs; adjoin = adjoin; epoch_is = refl; place_is = refl }
 
-record EndsAs (both next : History) : Type 0 where
-  epoch_is : both.present.epoch ≡ next.present.epoch
-  place_is : told_to both.present ≡ told_to next.present
+pub record EndsAs (both next : History) : Type 0 where
+  pub epoch_is : both.present.epoch ≡ next.present.epoch
+  pub place_is : told_to both.present ≡ told_to next.present
 
-ends_as : (past : List Telling) (present : Telling) (next : History) (earlier : List Telling) (number base : ℕ) → GoesOnFrom present.epoch (told_to present) number base →
+pub ends_as : (past : List Telling) (present : Telling) (next : History) (earlier : List Telling) (number base : ℕ) → GoesOnFrom present.epoch (told_to present) number base →
     AreEpochsFrom number base (earlier ++ next.present ∷ []) → EndsAs (epochs_behind past present next earlier) next
 ends_as past present next [] number base goes are = by_case (next.present.epoch == present.epoch) refl goes
   where

@@ -31,7 +31,7 @@ slot_numbers opened = map (λ (one : Opened). one.begin.slot.0) opened
 
 -- ---- the first of a slot
 
-found : (slot : Slot) (opened : List Opened) (last : Opened) → AreDistinct (slot_numbers opened) → Contains opened last → last.begin.slot.0 ≡ slot.0 → first_of slot opened ≡ Some last
+pub found : (slot : Slot) (opened : List Opened) (last : Opened) → AreDistinct (slot_numbers opened) → Contains opened last → last.begin.slot.0 ≡ slot.0 → first_of slot opened ≡ Some last
 found slot [] last apart there is = absurd (none_there last there)
 found slot (one ∷ opened) last apart there is = by_slot (one.begin.slot.0 == slot.0) refl (there_cases one last opened there) (λ later. found slot opened last apart.1 later is)
   where
@@ -43,7 +43,7 @@ found slot (one ∷ opened) last apart there is = by_slot (one.begin.slot.0 == s
     by_slot false e (inr behind) later = later behind
 
 module _ (next : Opened) where
-  found_next : (slot : Slot) (opened : List Opened) (last : Opened) → Contains opened last → last.begin.slot.0 ≡ next.begin.slot.0 → next.begin.slot.0 ≡ slot.0 →
+  pub found_next : (slot : Slot) (opened : List Opened) (last : Opened) → Contains opened last → last.begin.slot.0 ≡ next.begin.slot.0 → next.begin.slot.0 ≡ slot.0 →
       first_of slot (with_opening next opened) ≡ Some next
   found_next slot [] last there is at = absurd (none_there last there)
   found_next slot (one ∷ opened) last there is at = by_slot (one.begin.slot.0 == next.begin.slot.0) refl (there_cases one last opened there) (λ later. found_next slot opened last later is at)
@@ -59,7 +59,7 @@ module _ (next : Opened) where
           ∙ later behind
 
   -- of other slots it is the same
-  found_other : (slot : Slot) (opened : List Opened) → (next.begin.slot.0 ≡ slot.0 → ⊥) → first_of slot (with_opening next opened) ≡ first_of slot opened
+  pub found_other : (slot : Slot) (opened : List Opened) → (next.begin.slot.0 ≡ slot.0 → ⊥) → first_of slot (with_opening next opened) ≡ first_of slot opened
   found_other slot [] other = refl
   found_other slot (one ∷ opened) other = by_slot (one.begin.slot.0 == next.begin.slot.0) refl (found_other slot opened other)
     where
