@@ -115,18 +115,18 @@ module _ (placed : Parcel → Option Place) (wires : List WireTold) (files : Lis
             end_is = refl;
           })
 
-      known_is_backed : (note : Note) → IsKnownNote files hiddens acknowledged note → Backs all wires note
+      known_is_backed : (note : Note) → IsKnownNote run files hiddens acknowledged note → Backs all wires note
       known_is_backed note (inl (inl begin)) = backs_with_hidden (accounts_of placed files) hiddens others wires note (begin_of_one_is_backed note begin)
       known_is_backed note (inl (inr (inl seen))) = backs_with_hidden (accounts_of placed files) hiddens others wires note (moment_of_one_is_backed note seen)
       known_is_backed note (inl (inr (inr (inl of)))) = hidden_is_backed note of
       known_is_backed note (inl (inr (inr (inr of)))) = by_kind of.is
         where
-          by_kind : IsNamingOf of.file note ⊎ IsForgetOf of.file note → Backs all wires note
+          by_kind : IsNamingOf run of.file note ⊎ IsForgetOf of.file note → Backs all wires note
           by_kind (inl named) = subst (Backs all wires) (sym named.is) tt
           by_kind (inr forget) =
               backs_with_hidden (accounts_of placed files) hiddens others wires note
               (forget_is_backed run placed wires files apart of.file of.of_files (member_is (IsFollowedFile run) files of.file followed of.of_files) note forget)
       known_is_backed note (inr ground) = backs_with_hidden (accounts_of placed files) hiddens others wires note (has_ground_is_backed note ground)
 
-      pub are_backed : (notes : List Note) → AllByRecursion (IsKnownNote files hiddens acknowledged) notes → AreBacked all wires notes
-      are_backed notes each = each_then (IsKnownNote files hiddens acknowledged) (Backs all wires) notes known_is_backed each
+      pub are_backed : (notes : List Note) → AllByRecursion (IsKnownNote run files hiddens acknowledged) notes → AreBacked all wires notes
+      are_backed notes each = each_then (IsKnownNote run files hiddens acknowledged) (Backs all wires) notes known_is_backed each

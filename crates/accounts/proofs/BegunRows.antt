@@ -106,9 +106,9 @@ module _ (run : Run) (files : List Filed) (hiddens : List Hidden) (workers : Lis
   told_in_all : (note : Note) → Contains notes.told note → Contains notes.all note
   told_in_all note there = in_all note (Contains-append_left notes.told notes.collected note there)
 
-  pub are_notes : AreNotesOf files hiddens (acknowledged_in workers) notes.all
+  pub are_notes : AreNotesOf run files hiddens (acknowledged_in workers) notes.all
   are_notes = record {
-    each = each_member (IsKnownNote files hiddens (acknowledged_in workers)) notes.all each_known;
+    each = each_member (IsKnownNote run files hiddens (acknowledged_in workers)) notes.all each_known;
     begun = each_then (IsNoted notes.told) (IsNoted notes.all) files (λ file noted. record {
       path = noted.path;
       changed = noted.changed;
@@ -119,11 +119,11 @@ module _ (run : Run) (files : List Filed) (hiddens : List Hidden) (workers : Lis
     orderly = told.mixed.orderly;
   }
     where
-      by_part : (note : Note) → Contains notes.told note ⊎ Contains notes.collected note → IsKnownNote files hiddens (acknowledged_in workers) note
-      by_part note (inl here) = inl (member_is (MayTell files hiddens) notes.told note told.told.each here)
+      by_part : (note : Note) → Contains notes.told note ⊎ Contains notes.collected note → IsKnownNote run files hiddens (acknowledged_in workers) note
+      by_part note (inl here) = inl (member_is (MayTell run files hiddens) notes.told note told.told.each here)
       by_part note (inr here) = inr (member_is (HasGround (turned_of files) (acknowledged_in workers)) notes.collected note have_ground here)
 
-      each_known : (note : Note) → Contains notes.all note → IsKnownNote files hiddens (acknowledged_in workers) note
+      each_known : (note : Note) → Contains notes.all note → IsKnownNote run files hiddens (acknowledged_in workers) note
       each_known note there =
           by_part note (Contains-append_cases notes.told notes.collected note
           (often_contains same_note tells_notes (notes.told ++ notes.collected) notes.all note (often_back notes.all (notes.told ++ notes.collected) told.mixed.often) there))
@@ -141,9 +141,9 @@ module _ (run : Run) (files : List Filed) (hiddens : List Hidden) (workers : Lis
   -- it is the newest slot of its key, since it did not leave
   none_newer : (file : Filed) → Contains files file → file.removed ≡ None → (slot : ℕ) → Contains (slots_for (key_in file) notes.all) slot → slot ≤ slot_in file
   none_newer file among stays slot there =
-      by_order (cases_lt (slot_in file) slot) (whose_slot files hiddens (acknowledged_in workers) notes.all (slots_apart 0 files told.followed.slots) told.beside are_notes (key_in file) slot there)
+      by_order (cases_lt (slot_in file) slot) (whose_slot run files hiddens (acknowledged_in workers) notes.all (slots_apart 0 files told.followed.slots) told.beside are_notes (key_in file) slot there)
     where
-      by_order : (slot_in file < slot) ⊎ (slot ≤ slot_in file) → IsSlotFor files hiddens (acknowledged_in workers) notes.all (slots_apart 0 files told.followed.slots) told.beside are_notes (key_in file) slot →
+      by_order : (slot_in file < slot) ⊎ (slot ≤ slot_in file) → IsSlotFor run files hiddens (acknowledged_in workers) notes.all (slots_apart 0 files told.followed.slots) told.beside are_notes (key_in file) slot →
           slot ≤ slot_in file
       by_order (inr within) of = within
       by_order (inl newer) of =
@@ -155,10 +155,10 @@ module _ (run : Run) (files : List Filed) (hiddens : List Hidden) (workers : Lis
   pub begun_row : (file : Filed) → Contains files file → file.removed ≡ None → (rows : List Row) → AreRowsOver run.opening notes.all rows → IsBegunRow file rows
   begun_row file among stays rows over =
       let apart = slots_apart 0 files told.followed.slots in
-      let started = is_started files hiddens (acknowledged_in workers) notes.all apart told.beside are_notes file among in
+      let started = is_started run files hiddens (acknowledged_in workers) notes.all apart told.beside are_notes file among in
       let start : Start = record { key = key_in file; path = started.path; epoch = file.opened.begin.epoch.0; base = file.opened.begin.base } in
       let row = standing_row (notes_of (slot_in file) notes.all) start in
-      let stands = own_row_stands (slot_in file) notes.all start (none_forgotten files hiddens (acknowledged_in workers) notes.all apart told.beside are_notes file among stays) started.is in
+      let stands = own_row_stands (slot_in file) notes.all start (none_forgotten run files hiddens (acknowledged_in workers) notes.all apart told.beside are_notes file among stays) started.is in
       let found = over.each (key_in file)
       ∙ row_of_newest run.opening notes.all (key_in file) (slot_in file) row (slot_there notes.all file (member_is (IsNoted notes.all) files file are_notes.begun among)) (none_newer file among stays) stands in
       record { start = start; key_is = refl; epoch_is = refl; base_is = refl; of_rows = found_there (key_in file) rows row found }

@@ -100,17 +100,17 @@ module _ (run : Run) (scan : Scan) (files : List Filed) (hiddens : List Hidden) 
         let within = collected_in_all run files hiddens workers notes told in
         let begun = begun_row run files hiddens workers notes told file among whole.stays rows over in
         let epochs = are_in_epochs run files told.followed.each in
-        let epoch = epoch_is files hiddens workers notes.all notes.collected apart told.beside (turned_apart files told.followed.slots slots) epochs slots are within done.settled file among numbered in
+        let epoch = epoch_is run files hiddens workers notes.all notes.collected apart told.beside (turned_apart files told.followed.slots slots) epochs slots are within done.settled file among numbered in
         let in_epochs = file_in_epochs run file followed in
         let adjoin : Adjoin present.start (spans_of present.told) =
         last_of_each (λ (t : Telling). Adjoin t.start (spans_of t.told)) (turned_in file).history.past present in_epochs.adjoin in
-        let offset = offset_is files hiddens workers notes.all notes.collected apart told.beside (turned_apart files told.followed.slots slots) epochs slots are within done.settled file among
+        let offset = offset_is run files hiddens workers notes.all notes.collected apart told.beside (turned_apart files told.followed.slots slots) epochs slots are within done.settled file among
         begun.start begun.epoch_is begun.base_is numbered epoch adjoin in (
           standing_row (notes_of (slot_in file) notes.all) begun.start,
           record {
             of_rows = begun.of_rows;
             key_is = begun.key_is;
-            moment_so = moment_is files hiddens (acknowledged_in workers) notes.all apart told.beside are file among
+            moment_so = moment_is run files hiddens (acknowledged_in workers) notes.all apart told.beside are file among
                 whole.moment.note whole.moment.among whole.moment.slot_is whole.moment.carries;
             epoch_so = epoch;
             offset_so = offset;

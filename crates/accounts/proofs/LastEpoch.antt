@@ -7,6 +7,7 @@ use Rattle.std.proofs.lemmas.List.Elements.{All-from_recursion, Contains-append_
 use Rattle.batch_worker.specs.Held.{note_of, notes_of as settlements_of}
 use Rattle.harvester.specs.History.{Telling, told_to}
 use Rattle.kept_rows.specs.Scans.{AreDistinct}
+use Rattle.kept_rows.specs.Run.{Run}
 use Rattle.ship_core.proofs.Members.{first_there, given_there, greatest_least, later_there, member_within, passed_there, there_given, there_passed}
 use Rattle.ship_core.proofs.Prefixes.{closes_all}
 use Rattle.ship_core.specs.CoveredEnd.{Adjoin, covered_end}
@@ -74,9 +75,9 @@ present_begins start epoch base (first ∷ past) present number place are =
     ap (λ (b : Bool). if b then start.base else 0) (ne_eqb present.epoch start.epoch (λ same. omega (arith, later, same, number)))
     ∙ sym (last_of_each (λ (t : Telling). t.start ≡ 0) past present (starts_at_none epoch (past ++ present ∷ []) are.2))
 
-module _ (files : List Filed) (hiddens : List Hidden) (workers : List Taken) (notes collected : List Note) (apart : AreDistinct (map slot_in files)) (beside : AreBeside files hiddens)
+module _ (run : Run) (files : List Filed) (hiddens : List Hidden) (workers : List Taken) (notes collected : List Note) (apart : AreDistinct (map slot_in files)) (beside : AreBeside files hiddens)
     (turned_apart : AreDistinct (map (λ (turned : Turned). turned.slot.0) (turned_of files))) (epochs : AllByRecursion IsInEpochs (turned_of files))
-    (own : AllByRecursion HasItsSlot files) (are : AreNotesOf files hiddens (acknowledged_in workers) notes) (within : (note : Note) → Contains collected note → Contains notes note)
+    (own : AllByRecursion HasItsSlot files) (are : AreNotesOf run files hiddens (acknowledged_in workers) notes) (within : (note : Note) → Contains collected note → Contains notes note)
     (settled : AreAllCollected (turned_of files) workers collected) where
   -- ---- what was told is collected
 
@@ -169,7 +170,7 @@ module _ (files : List Filed) (hiddens : List Hidden) (workers : List Taken) (no
 
       epoch_within : (note : Note) (epoch : ℕ) → Contains notes note → slot_of note ≡ slot_in file → epoch_of note ≡ Some epoch → epoch ≤ present.epoch
       epoch_within note epoch there slot names =
-          own_note files hiddens (acknowledged_in workers) notes apart beside are file among (λ (n : Note). epoch_of n ≡ Some epoch → slot_of n ≡ slot_in file → epoch ≤ present.epoch)
+          own_note run files hiddens (acknowledged_in workers) notes apart beside are file among (λ (n : Note). epoch_of n ≡ Some epoch → slot_of n ≡ slot_in file → epoch ≤ present.epoch)
           (λ n begin e of_slot.
           let is = some_is file.opened.begin.epoch.0 epoch (sym (ap epoch_of begin.is) ∙ e) in
           let least = first_within file.opened.begin.epoch.0 file.opened.begin.base (turned_in file).history.past present numbered in
@@ -225,7 +226,7 @@ module _ (files : List Filed) (hiddens : List Hidden) (workers : List Taken) (no
         let found = there_given (span_in present.epoch) own_notes span there in
         let passed = there_passed (λ (n : Note). slot_of n == slot_in file) notes found.0 found.1 in
         let slot = eqb-true (slot_of found.0) (slot_in file) passed.1 in
-        own_note files hiddens (acknowledged_in workers) notes apart beside are file among
+        own_note run files hiddens (acknowledged_in workers) notes apart beside are file among
         (λ (n : Note). span_in present.epoch n ≡ Some span → slot_of n ≡ slot_in file → Contains (spans_of present.told) span)
         (λ n begin is of_slot. absurd (let q : None ≡ Some span = sym (ap (span_in present.epoch) begin.is) ∙ is in cc))
         (λ n seen same is of_slot. absurd (let q : None ≡ Some span = sym (ap (span_in present.epoch) seen.is) ∙ is in cc))

@@ -11,6 +11,7 @@ use Rattle.harvester.specs.History.{Telling}
 use Rattle.kept_rows.proofs.Begun.{ForgetNone, IsNoForget}
 use Rattle.kept_rows.specs.Account.{Following}
 use Rattle.kept_rows.specs.Scans.{AreDistinct}
+use Rattle.kept_rows.specs.Run.{Run}
 use Rattle.ship_core.proofs.Members.{first_there, given_there, greatest_least, later_there, member_within, none_there, passed_there, there_cases, there_given, there_passed}
 use Rattle.ship_core.specs.RowOver.{Start, greatest_moment, moment_of, notes_of, slot_of, start_over}
 use Rattle.ship_core.specs.RowsOver.{slot_for, slots_for}
@@ -160,8 +161,8 @@ settlement_there slot (first ∷ later) telling note among there = by_case (ther
 
 -- ---- of a run
 
-module _ (files : List Filed) (hiddens : List Hidden) (acknowledged : List Parcel) (notes : List Note) (apart : AreDistinct (map slot_in files)) (beside : AreBeside files hiddens)
-    (are : AreNotesOf files hiddens acknowledged notes) where
+module _ (run : Run) (files : List Filed) (hiddens : List Hidden) (acknowledged : List Parcel) (notes : List Note) (apart : AreDistinct (map slot_in files)) (beside : AreBeside files hiddens)
+    (are : AreNotesOf run files hiddens acknowledged notes) where
   -- where a note of them stands, and whose it is
   module _ (file : Filed) (among : Contains files file) where
     abbrev own_notes : List Note
@@ -177,19 +178,19 @@ module _ (files : List Filed) (hiddens : List Hidden) (acknowledged : List Parce
     -- a note of the file: its Begin, a moment of it, or one that has its ground in what files told
     pub own_note : (P : Note → Type 0) →
         ((note : Note) → IsBeginOf file note → P note) → ((note : Note) (seen : IsMomentOfOne files note) → seen.file ≡ file → P note) →
-        ((note : Note) → HasGround (turned_of files) acknowledged note → P note) → ((note : Note) → IsNamingOf file note → P note) → ((note : Note) → IsForgetOf file note → P note) →
+        ((note : Note) → HasGround (turned_of files) acknowledged note → P note) → ((note : Note) → IsNamingOf run file note → P note) → ((note : Note) → IsForgetOf file note → P note) →
         (note : Note) → Contains notes note → slot_of note ≡ slot_in file → P note
-    own_note P begin seen ground named forgotten note there slot = by_kind (member_is (IsKnownNote files hiddens acknowledged) notes note are.each there)
+    own_note P begin seen ground named forgotten note there slot = by_kind (member_is (IsKnownNote run files hiddens acknowledged) notes note are.each there)
       where
         of_hidden : (of : IsOfHidden hiddens note) → (note ≡ hidden_begin of.hidden) ⊎ (note ≡ hidden_forget of.hidden) → P note
         of_hidden of (inl is) = absurd (not_hidden of.hidden of.of_hiddens (ap slot_of (sym is) ∙ slot))
         of_hidden of (inr is) = absurd (not_hidden of.hidden of.of_hiddens (ap slot_of (sym is) ∙ slot))
 
-        of_file : (of : IsOfFile files note) → IsNamingOf of.file note ⊎ IsForgetOf of.file note → P note
-        of_file of (inl is) = named note (subst (λ (f : Filed). IsNamingOf f note) (slot_names of.file of.of_files (ap slot_of (sym is.is) ∙ slot)) is)
+        of_file : (of : IsOfFile run files note) → IsNamingOf run of.file note ⊎ IsForgetOf of.file note → P note
+        of_file of (inl is) = named note (subst (λ (f : Filed). IsNamingOf run f note) (slot_names of.file of.of_files (ap slot_of (sym is.is) ∙ slot)) is)
         of_file of (inr is) = forgotten note (subst (λ (f : Filed). IsForgetOf f note) (slot_names of.file of.of_files (ap slot_of (sym is.is) ∙ slot)) is)
 
-        by_kind : IsKnownNote files hiddens acknowledged note → P note
+        by_kind : IsKnownNote run files hiddens acknowledged note → P note
         by_kind (inl (inl of)) =
             let same : of.file ≡ file = slot_names of.file of.of_files (ap slot_of (sym of.begins.is) ∙ slot) in
             begin note (subst (λ (f : Filed). IsBeginOf f note) same of.begins)
@@ -283,7 +284,7 @@ module _ (files : List Filed) (hiddens : List Hidden) (acknowledged : List Parce
   pub whose_slot : (key : List ℕ) (slot : ℕ) → Contains (slots_for key notes) slot → IsSlotFor key slot
   whose_slot key slot there =
       let of = there_given (slot_for key) notes slot there in
-      by_kind of.0 of.2 (member_is (IsKnownNote files hiddens acknowledged) notes of.0 are.each of.1)
+      by_kind of.0 of.2 (member_is (IsKnownNote run files hiddens acknowledged) notes of.0 are.each of.1)
     where
       of_hidden : (note : Note) (hidden : Hidden) → Contains hiddens hidden → (note ≡ hidden_begin hidden) ⊎ (note ≡ hidden_forget hidden) → slot_for key note ≡ Some slot → IsSlotFor key slot
       of_hidden note hidden among (inl is) begun = record {
@@ -294,11 +295,11 @@ module _ (files : List Filed) (hiddens : List Hidden) (acknowledged : List Parce
       }
       of_hidden note hidden among (inr is) begun = begins_none key slot note (hidden_forget hidden) is refl begun
 
-      of_file : (note : Note) (file : Filed) → IsNamingOf file note ⊎ IsForgetOf file note → slot_for key note ≡ Some slot → IsSlotFor key slot
+      of_file : (note : Note) (file : Filed) → IsNamingOf run file note ⊎ IsForgetOf file note → slot_for key note ≡ Some slot → IsSlotFor key slot
       of_file note file (inl named) begun = begins_none key slot note _ named.is refl begun
       of_file note file (inr forget) begun = begins_none key slot note _ forget.is refl begun
 
-      by_kind : (note : Note) → slot_for key note ≡ Some slot → IsKnownNote files hiddens acknowledged note → IsSlotFor key slot
+      by_kind : (note : Note) → slot_for key note ≡ Some slot → IsKnownNote run files hiddens acknowledged note → IsSlotFor key slot
       by_kind note begun (inl (inl of)) = record {
         one = following_of of.file;
         among = Contains-append_left (map following_of files) (map hidden_following hiddens) (following_of of.file) (mapped_there following_of files of.file of.of_files);

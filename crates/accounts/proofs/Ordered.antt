@@ -7,6 +7,7 @@ use Rattle.std.proofs.lemmas.List.Elements.{All-from_recursion, Contains-append_
 use Rattle.harvester.specs.History.{Telling}
 use Rattle.kept_rows.proofs.Showing.{both}
 use Rattle.kept_rows.specs.Scans.{AreDistinct}
+use Rattle.kept_rows.specs.Run.{Run}
 use Rattle.ship_core.proofs.Members.{first_there, none_there, there_cases, there_given, there_passed}
 use Rattle.ship_core.specs.CoveredEnd.{AreEqualOrApart}
 use Rattle.ship_core.specs.Orderly.{AreOrderly, IsBegun, MayFollow}
@@ -181,17 +182,17 @@ module _ (files : List Turned) (acknowledged : List Parcel) where
 abbrev pub SettlesNothing : Note → Type 0
 SettlesNothing note = (epoch : ℕ) → span_in epoch note ≡ None
 
-pub told_settles_nothing : (files : List Filed) (hiddens : List Hidden) (note : Note) → MayTell files hiddens note → SettlesNothing note
-told_settles_nothing files hiddens note (inl of) = λ epoch. ap (span_in epoch) of.begins.is
-told_settles_nothing files hiddens note (inr (inl of)) = λ epoch. ap (span_in epoch) of.is
-told_settles_nothing files hiddens note (inr (inr (inl of))) = by_kind of.is
+pub told_settles_nothing : (run : Run) (files : List Filed) (hiddens : List Hidden) (note : Note) → MayTell run files hiddens note → SettlesNothing note
+told_settles_nothing run files hiddens note (inl of) = λ epoch. ap (span_in epoch) of.begins.is
+told_settles_nothing run files hiddens note (inr (inl of)) = λ epoch. ap (span_in epoch) of.is
+told_settles_nothing run files hiddens note (inr (inr (inl of))) = by_kind of.is
   where
     by_kind : (note ≡ hidden_begin of.hidden) ⊎ (note ≡ hidden_forget of.hidden) → SettlesNothing note
     by_kind (inl is) = λ epoch. ap (span_in epoch) is
     by_kind (inr is) = λ epoch. ap (span_in epoch) is
-told_settles_nothing files hiddens note (inr (inr (inr of))) = by_kind of.is
+told_settles_nothing run files hiddens note (inr (inr (inr of))) = by_kind of.is
   where
-    by_kind : IsNamingOf of.file note ⊎ IsForgetOf of.file note → SettlesNothing note
+    by_kind : IsNamingOf run of.file note ⊎ IsForgetOf of.file note → SettlesNothing note
     by_kind (inl named) = λ epoch. ap (span_in epoch) named.is
     by_kind (inr forget) = λ epoch. ap (span_in epoch) forget.is
 

@@ -2,6 +2,7 @@
 -- books.
 use Rattle.std.proofs.Common.{◌≡◌, inl, inr, ℕ, ◌≤◌, List, [], ◌∷◌, Contains, map, sym, ap, subst, ◌∙◌}
 use Rattle.std.specs.List.{AllByRecursion, flat_map}
+use Rattle.kept_rows.specs.Run.{Run}
 use Rattle.outside.specs.declared.history.Look.{Look}
 use Rattle.wire_base.specs.declared.note.Note.{Note}
 use Rattle.wire_base.specs.declared.note.Note.TheVariants.{Begin, Seen}
@@ -52,18 +53,18 @@ module _ (looks : Opened → List Look) (changed : Opened → ℕ) (told : List 
       }
 
   module _ (opened : List Opened) (joined : AreJoined looks changed opened told) where
-    told_of_files : (hiddens : List Hidden) (note : Note) → MayTellAs changed opened hiddens note → MayTell joined.files hiddens note
-    told_of_files hiddens note (inl begin) = inl (begin_of_file joined.files joined.each note (subst (λ (l : List Opened). IsBeginAsOne changed l note) (sym joined.opened_are) begin))
-    told_of_files hiddens note (inr (inl seen)) = inr (inl (moment_of_file joined.files joined.each note (subst (λ (l : List Opened). IsMomentAs changed l note) (sym joined.opened_are) seen)))
-    told_of_files hiddens note (inr (inr of)) = inr (inr (inl of))
+    told_of_files : (run : Run) (hiddens : List Hidden) (note : Note) → MayTellAs changed opened hiddens note → MayTell run joined.files hiddens note
+    told_of_files run hiddens note (inl begin) = inl (begin_of_file joined.files joined.each note (subst (λ (l : List Opened). IsBeginAsOne changed l note) (sym joined.opened_are) begin))
+    told_of_files run hiddens note (inr (inl seen)) = inr (inl (moment_of_file joined.files joined.each note (subst (λ (l : List Opened). IsMomentAs changed l note) (sym joined.opened_are) seen)))
+    told_of_files run hiddens note (inr (inr of)) = inr (inr (inl of))
 
     noted_files : (first : List Note) (files : List Filed) → AllByRecursion (IsNotedAs first) (map (λ (file : Filed). file.opened) files) → AllByRecursion (IsNoted first) files
     noted_files first [] each = tt
     noted_files first (file ∷ files) each = (record { path = each.0.path; changed = each.0.moment; there = each.0.there }, noted_files first files each.1)
 
-    pub joined_told_notes : (hiddens : List Hidden) (first : List Note) → AreToldNotesAs changed opened hiddens first → AreToldNotes joined.files hiddens first
-    joined_told_notes hiddens first are = record {
-      each = each_then (MayTellAs changed opened hiddens) (MayTell joined.files hiddens) first (told_of_files hiddens) are.each;
+    pub joined_told_notes : (run : Run) (hiddens : List Hidden) (first : List Note) → AreToldNotesAs changed opened hiddens first → AreToldNotes run joined.files hiddens first
+    joined_told_notes run hiddens first are = record {
+      each = each_then (MayTellAs changed opened hiddens) (MayTell run joined.files hiddens) first (told_of_files run hiddens) are.each;
       begun = noted_files first joined.files (subst (AllByRecursion (IsNotedAs first)) (sym joined.opened_are) are.begun);
       hidden_begun = are.hidden_begun;
     }

@@ -75,7 +75,7 @@ module _ (run : Run) (files : List Filed) (hiddens : List Hidden) (workers : Lis
       -- what lets its row go is its Forget
       was_removed : (note : Note) → Contains notes.all note → slot_named note ≡ slot_in file → (IsNoForget note → ⊥) → (removal : Removal) × (file.removed ≡ Some removal)
       was_removed note there slot is_forget =
-          own_note files hiddens (acknowledged_in workers) notes.all (slots_apart 0 files told.followed.slots) told.beside (are_notes run files hiddens workers notes told) file among
+          own_note run files hiddens (acknowledged_in workers) notes.all (slots_apart 0 files told.followed.slots) told.beside (are_notes run files hiddens workers notes told) file among
           (λ (n : Note). (IsNoForget n → ⊥) → (removal : Removal) × (file.removed ≡ Some removal))
           (λ n begin not. absurd (not (subst IsNoForget (sym begin.is) tt)))
           (λ n seen same not. absurd (not (subst IsNoForget (sym seen.is) tt)))
@@ -90,7 +90,7 @@ module _ (run : Run) (files : List Filed) (hiddens : List Hidden) (workers : Lis
       pub is_gone : row_over (slot_in file) notes.all ≡ None → IsGone
       is_gone none =
           let apart = slots_apart 0 files told.followed.slots in
-          let started = is_started files hiddens (acknowledged_in workers) notes.all apart told.beside (are_notes run files hiddens workers notes told) file among in
+          let started = is_started run files hiddens (acknowledged_in workers) notes.all apart told.beside (are_notes run files hiddens workers notes told) file among in
           let start : Start = record { key = key_in file; path = started.path; epoch = file.opened.begin.epoch.0; base = file.opened.begin.base } in
           let gone = forgotten closes_by all run.trace.wires notes.all in_rows backed (slot_in file) start started.is none in
           let of = was_removed gone.note gone.there gone.of_slot gone.is_forget in

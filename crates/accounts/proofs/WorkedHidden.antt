@@ -1,6 +1,6 @@
 -- Worked hidden rows, which may go, and rows that may not: the folder has one file, which the scan lists, and the registry had the row of
 -- another.
-use Rattle.std.proofs.Common.{◌≡◌, inl, inr, ℕ, zero, suc, true, false, List, [], ◌∷◌, get_or, Option, Some, None, refl, sym, ap, ◌∙◌, subst, arith, codes}
+use Rattle.std.proofs.Common.{◌≡◌, inl, inr, ℕ, zero, suc, ◌<◌, true, false, List, [], ◌∷◌, get_or, Option, Some, None, refl, sym, ap, ◌∙◌, subst, arith, codes}
 use Rattle.std.specs.List.{Contains, slice_get}
 use Rattle.event_tree.specs.declared.input_rule.InputRule.{InputRule}
 use Rattle.file_identity.specs.Key.{named_key, path_key}
@@ -40,7 +40,7 @@ abbrev asking : Asking
 asking = record { input = 0; path = codes "/w/a.log"; opening = None }
 
 abbrev hidden : Hidden
-hidden = record { slot = record { 0 = 1 }; row = absent_row; input = 0; start = start_unlisted absent_row; hidden_by = 0 }
+hidden = record { slot = record { 0 = 1 }; row = absent_row; input = 0; path = b_log; start = start_unlisted absent_row; hidden_by = 0 }
 
 -- ---- what its scan shows
 
@@ -108,6 +108,7 @@ may_go = record {
   key_of_input = record { rest = codes "path::/w/b.log"; spelled = refl };
   found = refl;
   begun = begins_unlisted the_run hidden scan refl refl refl key_is_hidden;
+  path = inl ((λ number other since less is. absurd (omega (arith, less))), refl);
   scan = scan;
   scan_is = refl;
   whole = is_whole;
@@ -164,6 +165,18 @@ row_of_keeping_input_may_not_go may =
     let rule : record input { clean_removed = false } ≡ may.rule = cc in
     let cleans : false ≡ true = ap (λ (r : InputRule). r.clean_removed) rule ∙ may.cleans in
     cc
+
+-- a row that is begun by another path than its own, though no scan showed its key
+other_path_may_not_go : MayGo the_run (record hidden { path = codes "/w/c.log" }) → ⊥
+other_path_may_not_go may = elim may.path [
+  | inl own ↦
+      -- the letters behind the folder's name
+      let letters : 99 ≡ 98 = ap (λ (l : List ℕ). get_or l 3 0) own.1 in
+      omega (arith, letters)
+  | inr shown ↦
+      let earlier : shown.place < 0 = shown.earlier in
+      omega (arith, earlier)
+]
 
 -- one row twice
 row_goes_once : MayAllGo the_run (hidden ∷ hidden ∷ []) → ⊥

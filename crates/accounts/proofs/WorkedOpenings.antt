@@ -102,7 +102,7 @@ lists shown = Listed root 8 (shown ∷ [])
 pub a_is_covered : IsCovered paths a_log
 a_is_covered = (0, codes "/w/**", omega arith, refl, (worked.covered.0, refl, (worked.covered.2.0, (worked.covered.2.1.0, (1, lit≤ tt, lit≤ tt, ((λ none. cc), tt), tt)))))
 
-abbrev scan_at : ℕ → List ℕ → Scan
+abbrev pub scan_at : ℕ → List ℕ → Scan
 scan_at listing path = record { moment = 0; listings = listing ∷ []; askings = record { input = 0; path = path; opening = None } ∷ [] }
 
 module _ (own : Twice) where
@@ -227,7 +227,7 @@ module _ (own : Twice) (no_bytes : IsNoFingerprint own.identity) (path : List �
     gave = record { no_bytes = no_bytes; number_is = refl; gave = sym named };
   }
 
-  first_path : compare path path ≢ Less → IsFirstPath (run own) (scan_at listing path) own.key 0 path
+  pub first_path : compare path path ≢ Less → IsFirstPath (run own) (scan_at listing path) own.key 0 path
   first_path not_before_itself = record {
     shows = record { shown = shown_by own path in_life size; path_is = refl; shows = (0, shows_to) };
     first = λ other shows less.

@@ -1,7 +1,7 @@
 -- A worked account of a file that was removed while its tail was open: the last of four scans hides it, its tail finds the end, and its Forget names
 -- the place at which what was told ends. Once both events are settled its row goes, and rightly; while one is not, the row stays. And what is refused:
 -- a Forget below what was told, and removals by scans that show the file or are partial, or before its end was found.
-use Rattle.std.proofs.Common.{◌≡◌, ◌⊎◌, inl, inr, ℕ, zero, suc, ◌<◌, List, [], ◌∷◌, ◌++◌, Contains, Option, Some, None, refl, sym, ap, subst, ◌∙◌, arith, lit≤}
+use Rattle.std.proofs.Common.{◌≡◌, ◌⊎◌, inl, inr, ℕ, zero, suc, ◌<◌, List, [], ◌∷◌, ◌++◌, Contains, length, Option, Some, None, refl, sym, ap, subst, ◌∙◌, arith, lit≤}
 use Rattle.std.specs.List.{AllByRecursion}
 use Rattle.std.specs.Prelude.{slice_get}
 use Rattle.event_tree.specs.declared.input_rule.IdentityRule.TheVariants.{Path}
@@ -23,9 +23,10 @@ use Rattle.wire_base.specs.declared.note.Note.{Note}
 use Rattle.wire_base.specs.declared.note.Note.TheVariants.{Begin, Forget, Rename, Seen, Settle}
 use Rattle.accounts.specs.Filed.{Filed, Removal, account_of, following_of, last_opening, last_told}
 use Rattle.accounts.specs.FollowedFile.{IsFollowedFile, IsReadBehind, WasRemovedBy}
+use Rattle.accounts.specs.Hidden.{WasShownBy}
 use Rattle.accounts.specs.RunTold.{LeftWithoutRow, RunNotes, RunTold}
 use Rattle.accounts.specs.ToldNotes.{IsForgetOf, IsNamingOf, MayTell}
-use Rattle.accounts.specs.Watched.{watch_in}
+use Rattle.accounts.specs.Watched.{WasRenamedSince, watch_in}
 use Rattle.accounts.proofs.AccountingFor.{IsAccountedFor, backed, in_rows, is_accounted_for}
 use Rattle.accounts.proofs.Ordered.{one_more_orderly}
 use Rattle.accounts.proofs.Went.{is_gone}
@@ -186,14 +187,14 @@ abbrev end_in : Note → ℕ
 end_in (Forget slot epoch end) = end
 end_in other = 0
 
-forget_at_a_place_not_told : MayTell (gone_file ∷ []) [] early → ⊥
+forget_at_a_place_not_told : MayTell run (gone_file ∷ []) [] early → ⊥
 forget_at_a_place_not_told (inl begin) = absurd (let q : early ≡ Begin begin.file.opened.begin.slot begin.file.opened.begin.key begin.begins.path begin.file.opened.begin.epoch begin.file.opened.begin.base begin.begins.changed = begin.begins.is in cc)
 forget_at_a_place_not_told (inr (inl seen)) = absurd (let q : early ≡ Seen seen.file.opened.begin.slot seen.changed = seen.is in cc)
 forget_at_a_place_not_told (inr (inr (inl hidden))) = none_there hidden.hidden hidden.of_hiddens
 forget_at_a_place_not_told (inr (inr (inr of))) = by_kind of.file of.of_files of.is
   where
-    by_kind : (file : Filed) → Contains (gone_file ∷ []) file → IsNamingOf file early ⊎ IsForgetOf file early → ⊥
-    by_kind file there (inl named) = absurd (let q : early ≡ Rename file.opened.begin.slot named.scan named.path = named.is in cc)
+    by_kind : (file : Filed) → Contains (gone_file ∷ []) file → IsNamingOf run file early ⊎ IsForgetOf file early → ⊥
+    by_kind file there (inl named) = absurd (let q : early ≡ Rename file.opened.begin.slot named.name.scan named.name.path = named.is in cc)
     by_kind file there (inr forget) = elim (there_cases gone_file file [] there) [
       | inr nothing ↦ none_there file nothing
       | inl same ↦
@@ -212,6 +213,33 @@ removed_by_a_scan_that_shows_it by =
 
 removed_by_a_partial_scan : WasRemovedBy run gone_file (record { hidden_by = 1; left_after = None }) → ⊥
 removed_by_a_partial_scan by = partial_scan_called_whole (subst (IsWhole run) (sym (some_scan partial by.scan by.scan_is)) by.whole)
+
+-- ---- by which path it is known
+
+-- a row of the key that went by the last scan, without a tail, is begun by the path by which the third scan listed it
+pub path_listed_last : WasShownBy run worked.key a_log 3
+path_listed_last = record {
+  place = 2;
+  earlier = lit≤ tt;
+  scan = showing;
+  scan_is = refl;
+  number = 0;
+  first = shown_last.first;
+  none_nearer = λ number scan since less is. absurd (omega (arith, since, less));
+}
+
+-- so no Rename gives the file a path by a scan that was made before it was opened
+pub no_name_by_an_earlier_scan : WasRenamedSince run gone_file.opened (record { scan = 2; path = a_log }) → ⊥
+no_name_by_an_earlier_scan named = by_front named.front named.scan named.behind named.scans_are named.number_is named.later.0
+  where
+    by_front : (front : List Scan) (scan : Scan) (behind : List Scan) → run.scans ≡ front ++ scan ∷ behind → 2 ≡ length front → IsBehind 3 scan → ⊥
+    by_front [] scan behind are number later = absurd cc
+    by_front (one ∷ []) scan behind are number later = absurd cc
+    by_front (one ∷ other ∷ []) scan behind are number later =
+        let same : showing ≡ scan = cc in
+        let less : 3 < 2 = (subst (IsBehind 3) (sym same) later).0 in
+        omega (arith, less)
+    by_front (one ∷ other ∷ third ∷ front) scan behind are number later = absurd cc
 
 -- while its tail, which is closed only behind the scan, still reads on
 abbrev reading_file : Filed

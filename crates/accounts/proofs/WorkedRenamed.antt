@@ -14,7 +14,9 @@ use Rattle.accounts.specs.Filed.{account_of, turned_in}
 use Rattle.accounts.specs.FollowedFile.{IsFollowedFile}
 use Rattle.accounts.specs.Turned.{parcels_told}
 use Rattle.accounts.proofs.WorkedNative.{key, key_is}
-use Rattle.accounts.proofs.WorkedOpenings.{Twice, filed, goes_on_from_the_told_end, going_on, paths, placed, run}
+use Rattle.accounts.proofs.WorkedOpenings.{Twice, filed, first_path, goes_on_from_the_told_end, going_on, paths, placed, run, scan_at}
+use Rattle.accounts.specs.ToldNotes.{IsNamingOf}
+use Rattle.wire_base.specs.declared.note.Note.TheVariants.{Rename}
 
 abbrev b_log : List ℕ
 b_log = codes "/w/b.log"
@@ -33,6 +35,23 @@ b_is_covered =
 
 pub is_followed : IsFollowedFile (run renamed) (filed renamed)
 is_followed = goes_on_from_the_told_end Native (Some (18, 2049)) key b_log b_fate tt key_is key_is b_is_covered (λ less. absurd cc) refl
+
+-- the run may tell its keeper that path with the number of the second scan, which was made after the first opening
+pub may_be_named : IsNamingOf (run renamed) (filed renamed) (Rename (record { 0 = 0 }) 1 b_log)
+may_be_named = record {
+  name = record { scan = 1; path = b_log };
+  shown = record {
+    front = worked.scan ∷ [];
+    scan = scan_at 4 b_log;
+    behind = [];
+    scans_are = refl;
+    number_is = refl;
+    later = ((lit≤ tt, tt), tt);
+    number = 0;
+    first = first_path renamed tt b_log renamed.life renamed.size 4 refl b_is_covered key_is (λ less. absurd cc);
+  };
+  is = refl;
+}
 
 -- one epoch, whose events have the paths of their tails
 pub paths_by_their_tails : map (λ (epoch : EpochAccount). map (λ (one : AccountedEvent). one.event.path) epoch.told) (account_of placed (filed renamed)).epochs

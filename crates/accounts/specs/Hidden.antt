@@ -1,14 +1,14 @@
 -- Rows that the scans of a run hide (Filebeat reference, filestream input, `clean_removed`; this project's profile): a row of the registry, of an
 -- input that cleans the rows of removed files, whose key a whole scan did not show. Earlier scans may have shown it, as long as no tail of it was
--- opened. It has a slot of its own, which it got as it went: begun as the first scan lists it, or where the row stood, read by no tail, and gone by
--- that scan.
-use Rattle.std.specs.Prelude.{◌≡◌, ◌≢◌, ℕ, ◌+◌, ◌≤◌, nat_lt, true, Contains, List, [], ◌∷◌, map, slice_get, Some, if◌then◌else◌}
+-- opened. It has a slot of its own, which it got as it went: begun as the first scan lists it, or where the row stood, by the path by which it was
+-- listed last, read by no tail, and gone by that scan.
+use Rattle.std.specs.Prelude.{◌≡◌, ◌≢◌, ◌⊎◌, ℕ, ◌+◌, ◌<◌, ◌≤◌, nat_lt, true, Contains, List, [], ◌∷◌, map, slice_get, Some, if◌then◌else◌}
 use Rattle.std.specs.List.{AllByRecursion}
 use Rattle.event_tree.specs.declared.input_rule.InputRule.{InputRule}
 use Rattle.kept_rows.specs.Account.{Following, SlotAccount, slot_of}
-use Rattle.kept_rows.specs.Followed.{IsBegun, IsKeyOf, Start}
+use Rattle.kept_rows.specs.Followed.{IsBegun, IsKeyOf, Start, WasHidden}
 use Rattle.kept_rows.specs.Run.{Run, Scan}
-use Rattle.kept_rows.specs.Scans.{AreDistinct, IsWhole, ShowsKey}
+use Rattle.kept_rows.specs.Scans.{AreDistinct, IsFirstPath, IsWhole, ShowsKey}
 use Rattle.ship_core.specs.Rows.{find}
 use Rattle.wire_base.specs.declared.note.Note.{Note}
 use Rattle.wire_base.specs.declared.note.Note.TheVariants.{Begin, Forget}
@@ -16,11 +16,12 @@ use Rattle.wire_base.specs.declared.numbers.Slot.{Slot}
 use Rattle.wire_base.specs.declared.row.Row.{Row}
 use Rattle.accounts.specs.Filed.{Filed, slot_in}
 
--- with the number of its input, the epoch and the place with which it is begun, and the number of the scan by which it goes
+-- with the number of its input, the path, the epoch and the place with which it is begun, and the number of the scan by which it goes
 pub record Hidden : Type 0 where
   pub slot : Slot
   pub row : Row
   pub input : ℕ
+  pub path : List ℕ
   pub start : Start
   pub hidden_by : ℕ
 
@@ -33,7 +34,7 @@ hidden_slot hidden = hidden.slot.0
 -- ---- what the keeper is told of it: how it begins, and the Forget lets it go
 
 abbrev pub hidden_begin : Hidden → Note
-hidden_begin hidden = Begin hidden.slot hidden.row.key hidden.row.path (record { 0 = hidden.start.epoch }) hidden.start.base hidden.row.changed
+hidden_begin hidden = Begin hidden.slot hidden.row.key hidden.path (record { 0 = hidden.start.epoch }) hidden.start.base hidden.row.changed
 
 abbrev pub hidden_forget : Hidden → Note
 hidden_forget hidden = Forget hidden.slot (record { 0 = hidden.start.epoch }) hidden.start.base
@@ -72,6 +73,22 @@ with_hidden account (hidden ∷ hiddens) = put_slot (hidden_account hidden) (wit
 
 -- ---- why they may go
 
+-- of the scans before the one of this number, the last one that showed the key showed it by this path first
+pub record WasShownBy (run : Run) (key path : List ℕ) (until : ℕ) : Type 0 where
+  pub place : ℕ
+  pub earlier : place < until
+  pub scan : Scan
+  pub scan_is : slice_get run.scans place ≡ Some scan
+  pub number : ℕ
+  pub first : IsFirstPath run scan key number path
+  pub none_nearer : WasHidden run key (place + 1) until
+
+-- the path of its Begin: that of the row, if no scan before the one by which it goes showed the key; else the one by which it was listed last before
+abbrev pub HasItsPath : Run → Hidden → Type 0
+HasItsPath run hidden =
+    (WasHidden run (hidden_key hidden) 0 hidden.hidden_by × (hidden.path ≡ hidden.row.path))
+    ⊎ WasShownBy run (hidden_key hidden) hidden.path hidden.hidden_by
+
 -- it is the opening row of its key, of an input of the settings that cleans, and begins as the first scan lists it, or as the row stood; the scan by
 -- which it goes was whole and did not show the key
 pub record MayGo (run : Run) (hidden : Hidden) : Type 0 where
@@ -81,6 +98,7 @@ pub record MayGo (run : Run) (hidden : Hidden) : Type 0 where
   pub key_of_input : IsKeyOf rule.id (hidden_key hidden)
   pub found : find (hidden_key hidden) run.opening ≡ Some hidden.row
   pub begun : IsBegun run (hidden_following hidden)
+  pub path : HasItsPath run hidden
   pub scan : Scan
   pub scan_is : slice_get run.scans hidden.hidden_by ≡ Some scan
   pub whole : IsWhole run scan

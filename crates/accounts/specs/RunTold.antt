@@ -45,7 +45,7 @@ pub record RunTold (run : Run) (files : List Filed) (hiddens : List Hidden) (wor
   pub beside : AreBeside files hiddens
   pub turns : TakeTurns run files hiddens notes.all
   pub talks : AreOfWorkers workers run.trace.wires
-  pub told : AreToldNotes files hiddens notes.told
+  pub told : AreToldNotes run files hiddens notes.told
   pub mixed : AreMixed notes.told notes.collected notes.all
   pub fits : FitBooks (turned_of files) workers notes.collected
   pub gone : AllByRecursion (LeftWithoutRow notes.all) files

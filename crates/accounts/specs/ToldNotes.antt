@@ -3,6 +3,7 @@
 use Rattle.std.specs.Prelude.{◌≡◌, ◌⊎◌, ℕ, ◌≤◌, List, ◌++◌, Contains, Some}
 use Rattle.std.specs.List.{AllByRecursion}
 use Rattle.harvester.specs.History.{told_to}
+use Rattle.kept_rows.specs.Run.{Run}
 use Rattle.pass_sums.specs.Weight.{AsOften}
 use Rattle.ship_core.specs.Orderly.{AreOrderly}
 use Rattle.wire_base.specs.declared.note.Note.{Note}
@@ -13,6 +14,8 @@ use Rattle.accounts.specs.Filed.{Filed, IsNoted, Removal, last_told, turned_of}
 use Rattle.accounts.specs.Ground.{HasGround}
 use Rattle.accounts.specs.Hidden.{Hidden, hidden_begin, hidden_forget}
 use Rattle.accounts.specs.Opened.{Opened}
+use Rattle.accounts.specs.Watch.{Name}
+use Rattle.accounts.specs.Watched.{WasRenamedSince}
 
 -- the Begin of the file, with no greater moment than was noted of it
 pub record IsBeginOf (file : Filed) (note : Note) : Type 0 where
@@ -41,11 +44,11 @@ pub record IsOfHidden (hiddens : List Hidden) (note : Note) : Type 0 where
   pub of_hiddens : Contains hiddens hidden
   pub is : (note ≡ hidden_begin hidden) ⊎ (note ≡ hidden_forget hidden)
 
--- a path of the file, by a scan; nothing follows from which they are
-pub record IsNamingOf (file : Filed) (note : Note) : Type 0 where
-  pub scan : ℕ
-  pub path : List ℕ
-  pub is : note ≡ Rename file.opened.begin.slot scan path
+-- a path of the file, by which a scan behind its first opening listed its key first, with the number of that scan
+pub record IsNamingOf (run : Run) (file : Filed) (note : Note) : Type 0 where
+  pub name : Name
+  pub shown : WasRenamedSince run file.opened name
+  pub is : note ≡ Rename file.opened.begin.slot name.scan name.path
 
 -- the Forget of a file that was removed: its last epoch, and where all that was told of it ends
 pub record IsForgetOf (file : Filed) (note : Note) : Type 0 where
@@ -54,18 +57,18 @@ pub record IsForgetOf (file : Filed) (note : Note) : Type 0 where
   pub is : note ≡ Forget file.opened.begin.slot (record { 0 = (last_told file).epoch }) (told_to (last_told file))
 
 -- that of one of the files
-pub record IsOfFile (files : List Filed) (note : Note) : Type 0 where
+pub record IsOfFile (run : Run) (files : List Filed) (note : Note) : Type 0 where
   pub file : Filed
   pub of_files : Contains files file
-  pub is : IsNamingOf file note ⊎ IsForgetOf file note
+  pub is : IsNamingOf run file note ⊎ IsForgetOf file note
 
 -- what the run may tell
-abbrev pub MayTell : List Filed → List Hidden → Note → Type 0
-MayTell files hiddens note = IsBeginOfOne files note ⊎ (IsMomentOfOne files note ⊎ (IsOfHidden hiddens note ⊎ IsOfFile files note))
+abbrev pub MayTell : Run → List Filed → List Hidden → Note → Type 0
+MayTell run files hiddens note = IsBeginOfOne files note ⊎ (IsMomentOfOne files note ⊎ (IsOfHidden hiddens note ⊎ IsOfFile run files note))
 
 -- each may be told, and the Begin of each file and of each hidden row is among them
-pub record AreToldNotes (files : List Filed) (hiddens : List Hidden) (told : List Note) : Type 0 where
-  pub each : AllByRecursion (MayTell files hiddens) told
+pub record AreToldNotes (run : Run) (files : List Filed) (hiddens : List Hidden) (told : List Note) : Type 0 where
+  pub each : AllByRecursion (MayTell run files hiddens) told
   pub begun : AllByRecursion (IsNoted told) files
   pub hidden_begun : AllByRecursion (λ hidden. Contains told (hidden_begin hidden)) hiddens
 
@@ -77,11 +80,11 @@ pub record AreMixed (told collected notes : List Note) : Type 0 where
 -- ---- all of them
 
 -- the note was told by the run, or has its ground in what files told
-abbrev pub IsKnownNote : List Filed → List Hidden → List Parcel → Note → Type 0
-IsKnownNote files hiddens acknowledged note = MayTell files hiddens note ⊎ HasGround (turned_of files) acknowledged note
+abbrev pub IsKnownNote : Run → List Filed → List Hidden → List Parcel → Note → Type 0
+IsKnownNote run files hiddens acknowledged note = MayTell run files hiddens note ⊎ HasGround (turned_of files) acknowledged note
 
-pub record AreNotesOf (files : List Filed) (hiddens : List Hidden) (acknowledged : List Parcel) (notes : List Note) : Type 0 where
-  pub each : AllByRecursion (IsKnownNote files hiddens acknowledged) notes
+pub record AreNotesOf (run : Run) (files : List Filed) (hiddens : List Hidden) (acknowledged : List Parcel) (notes : List Note) : Type 0 where
+  pub each : AllByRecursion (IsKnownNote run files hiddens acknowledged) notes
   pub begun : AllByRecursion (IsNoted notes) files
   pub hidden_begun : AllByRecursion (λ hidden. Contains notes (hidden_begin hidden)) hiddens
   pub orderly : AreOrderly notes

@@ -9,7 +9,7 @@ use Rattle.accounts.proofs.Begins.{begin_begins}
 use Rattle.accounts.proofs.Grounded.{each_member, of_map}
 use Rattle.accounts.proofs.Ordered.{HasSlotBelow, below_more, below_then, none_of_slot, one_more_orderly}
 use Rattle.accounts.proofs.HiddenFollowed.{begins_unlisted}
-use Rattle.kept_rows.specs.Followed.{start_unlisted}
+use Rattle.kept_rows.specs.Followed.{WasHidden, start_unlisted}
 use Rattle.accounts.specs.Hidden.{AreHiddenFrom, Hidden, MayAllGo, MayGo, hidden_begin, hidden_forget, hidden_key}
 use Rattle.event_tree.specs.declared.input_rule.InputRule.{InputRule}
 use Rattle.file_rows.specs.Removed.{IsRemoved}
@@ -65,9 +65,10 @@ module _ (inputs : List InputRule) (listed : List Listed) where
     -- it begins where it stood, and goes by the first scan
     pub starts : hidden.start ≡ start_unlisted hidden.row
     pub first : hidden.hidden_by ≡ 0
+    pub path_is : hidden.path ≡ hidden.row.path
 
   later_hidden : (row : Row) (rows : List Row) (hidden : Hidden) → IsHiddenOf rows hidden → IsHiddenOf (row ∷ rows) hidden
-  later_hidden row rows hidden of = record { among = later_there row hidden.row rows of.among; removed = of.removed; input_is = of.input_is; starts = of.starts; first = of.first }
+  later_hidden row rows hidden of = record { among = later_there row hidden.row rows of.among; removed = of.removed; input_is = of.input_is; starts = of.starts; first = of.first; path_is = of.path_is }
 
   pub each_is_hidden_of : (slot : ℕ) (rows : List Row) (hiddens : List Hidden) (hidden : Hidden) → AreHiddenAmong inputs listed slot rows hiddens → Contains hiddens hidden → IsHiddenOf rows hidden
   each_is_hidden_of slot [] hiddens hidden are there = absurd (none_there hidden (subst (λ (l : List Hidden). Contains l hidden) are there))
@@ -76,7 +77,7 @@ module _ (inputs : List InputRule) (listed : List Listed) where
       by_place (there_cases (hidden_as inputs slot row goes.removed.cleaned) hidden goes.later (subst (λ (l : List Hidden). Contains l hidden) goes.are there)) (each_is_hidden_of (suc slot) rows goes.later hidden goes.rest)
     where
       by_place : (hidden_as inputs slot row goes.removed.cleaned ≡ hidden) ⊎ Contains goes.later hidden → (Contains goes.later hidden → IsHiddenOf rows hidden) → IsHiddenOf (row ∷ rows) hidden
-      by_place (inl same) later = subst (IsHiddenOf (row ∷ rows)) same (record { among = first_there row rows; removed = goes.removed; input_is = refl; starts = refl; first = refl })
+      by_place (inl same) later = subst (IsHiddenOf (row ∷ rows)) same (record { among = first_there row rows; removed = goes.removed; input_is = refl; starts = refl; first = refl; path_is = refl })
       by_place (inr behind) later = later_hidden row rows hidden (later behind)
 
   -- one that is removed is among them
@@ -161,6 +162,7 @@ module _ (run : Run) (scan : Scan) (listed : List Listed) (hiddens : List Hidden
         found = found_by_its_key run.opening hidden.row so_far.ordered (take_there so_far.count run.opening hidden.row of.among);
         begun = begins_unlisted run hidden scan (found_by_its_key run.opening hidden.row so_far.ordered (take_there so_far.count run.opening hidden.row of.among)) of.starts
             (ap (λ (l : List Scan). slice_get l 0) only) (not_shown (hidden_key hidden) of.removed);
+        path = inl (subst (WasHidden run (hidden_key hidden) 0) (sym of.first) (λ number other since less is. absurd (omega (arith, less))), of.path_is);
         scan = scan;
         scan_is = ap (slice_get run.scans) of.first ∙ ap (λ (l : List Scan). slice_get l 0) only;
         whole = whole;

@@ -39,7 +39,7 @@ pub record IsHiddenKey (hiddens : List Hidden) (key : List ℕ) : Type 0 where
 
 module _ (run : Run) (files : List Filed) (hiddens : List Hidden) (workers : List Taken) (notes : RunNotes) (told : RunTold run files hiddens workers notes) where
   abbrev Known : Note → Type 0
-  Known = IsKnownNote files hiddens (acknowledged_in workers)
+  Known = IsKnownNote run files hiddens (acknowledged_in workers)
 
   each_known : AllByRecursion Known notes.all
   each_known = (are_notes run files hiddens workers notes told).each
@@ -80,7 +80,7 @@ module _ (run : Run) (files : List Filed) (hiddens : List Hidden) (workers : Lis
   whose key slot note (inl (inr (inl of))) begun = absurd (nothing_begins key slot note _ of.is refl begun)
   whose key slot note (inl (inr (inr (inr of)))) begun = by_kind of.is
     where
-      by_kind : IsNamingOf of.file note ⊎ IsForgetOf of.file note → IsOfFile key slot ⊎ IsOfRow key slot
+      by_kind : IsNamingOf run of.file note ⊎ IsForgetOf of.file note → IsOfFile key slot ⊎ IsOfRow key slot
       by_kind (inl named) = absurd (nothing_begins key slot note _ named.is refl begun)
       by_kind (inr forget) = absurd (nothing_begins key slot note _ forget.is refl begun)
   whose key slot note (inl (inr (inr (inl of)))) begun = by_kind of.is
@@ -135,7 +135,7 @@ module _ (run : Run) (files : List Filed) (hiddens : List Hidden) (workers : Lis
         where
           by_whose : IsOfFile key slot ⊎ IsOfRow key slot → ForgetNone (notes_of slot notes.all)
           by_whose (inl of) = subst (λ (n : ℕ). ForgetNone (notes_of n notes.all)) of.slot_is
-              (none_forgotten files hiddens (acknowledged_in workers) notes.all (slots_apart 0 files told.followed.slots) told.beside (are_notes run files hiddens workers notes told) of.file of.among (stay of.file of.among))
+              (none_forgotten run files hiddens (acknowledged_in workers) notes.all (slots_apart 0 files told.followed.slots) told.beside (are_notes run files hiddens workers notes told) of.file of.among (stay of.file of.among))
           by_whose (inr of) = absurd (none of.hidden of.there of.key_is)
 
       by_case : IsHiddenKey hiddens key ⊎ ((hidden : Hidden) → Contains hiddens hidden → hidden_key hidden ≢ key) → KeepsItsSlots notes.all key ⊎ IsHiddenKey hiddens key

@@ -55,7 +55,7 @@ none_pass notes (slot ∷ slots) each =
 
 module _ (run : Run) (files : List Filed) (hiddens : List Hidden) (workers : List Taken) (notes : RunNotes) (told : RunTold run files hiddens workers notes) where
   abbrev Known : Note → Type 0
-  Known = IsKnownNote files hiddens (acknowledged_in workers)
+  Known = IsKnownNote run files hiddens (acknowledged_in workers)
 
   each_known : AllByRecursion Known notes.all
   each_known = (are_notes run files hiddens workers notes told).each
@@ -90,15 +90,15 @@ module _ (run : Run) (files : List Filed) (hiddens : List Hidden) (workers : Lis
         of_hidden : (other : Hidden) → Contains hiddens other → (note ≡ hidden_begin other) ⊎ (note ≡ hidden_forget other) → StartsThere start
         of_hidden other of (inl is) =
             let same = by_same_slot other of (ap slot_of (sym is) ∙ slot) in
-            let starts : Some (record { key = hidden_key other; path = other.row.path; epoch = other.start.epoch; base = other.start.base }) ≡ Some start = ap start_of (sym is) ∙ begun in
-            let its : record { key = hidden_key other; path = other.row.path; epoch = other.start.epoch; base = other.start.base } ≡ start = cc in
+            let starts : Some (record { key = hidden_key other; path = other.path; epoch = other.start.epoch; base = other.start.base }) ≡ Some start = ap start_of (sym is) ∙ begun in
+            let its : record { key = hidden_key other; path = other.path; epoch = other.start.epoch; base = other.start.base } ≡ start = cc in
             record {
               epoch_is = ap (λ (s : Start). s.epoch) (sym its) ∙ ap (λ (one : SlotAccount). one.following.epoch) same;
               base_is = ap (λ (s : Start). s.base) (sym its) ∙ ap (λ (one : SlotAccount). one.following.base) same;
             }
         of_hidden other of (inr is) = absurd (let q : None ≡ Some start = ap start_of (sym is) ∙ begun in cc)
 
-        of_file : (file : Filed) → IsNamingOf file note ⊎ IsForgetOf file note → StartsThere start
+        of_file : (file : Filed) → IsNamingOf run file note ⊎ IsForgetOf file note → StartsThere start
         of_file file (inl named) = absurd (let q : None ≡ Some start = ap start_of (sym named.is) ∙ begun in cc)
         of_file file (inr forget) = absurd (let q : None ≡ Some start = ap start_of (sym forget.is) ∙ begun in cc)
 

@@ -22,11 +22,11 @@ use Rattle.run_steps.specs.declared.beginning.BegunFiles.{BegunFiles}
 
 -- the slot and the row, with the numbers of an input that cleans it, and of the scan that hides it, the first one
 abbrev pub hidden_as : (inputs : List InputRule) → ℕ → (row : Row) → IsCleaned inputs row.key → Hidden
-hidden_as inputs slot row cleaned = record { slot = record { 0 = slot }; row = row; input = cleaned.0; start = start_unlisted row; hidden_by = 0 }
+hidden_as inputs slot row cleaned = record { slot = record { 0 = slot }; row = row; input = cleaned.0; path = row.path; start = start_unlisted row; hidden_by = 0 }
 
 -- the same, of whichever input it is
 abbrev pub going_by : Slot → Row → Hidden
-going_by slot row = record { slot = slot; row = row; input = 0; start = start_unlisted row; hidden_by = 0 }
+going_by slot row = record { slot = slot; row = row; input = 0; path = row.path; start = start_unlisted row; hidden_by = 0 }
 
 module _ (inputs : List InputRule) (listed : List Listed) where
   -- the row goes, and then of the rest
