@@ -25,7 +25,7 @@ use Rattle.slot_parts.specs.Account.{epoch_account, events_from}
 use Rattle.slot_parts.specs.Parts.{EpochParts, Part, epochs_of, told_in}
 use Rattle.slot_parts.specs.Tellings.{tellings_in}
 use Rattle.accounts.specs.Accounted.{place_by, place_in}
-use Rattle.accounts.specs.Filed.{Filed, IsFiled, TellEpoch, TellEpochs, account_of, accounts_of, parts_told, slot_in, turned_in}
+use Rattle.accounts.specs.Filed.{Filed, IsFiled, TellEpoch, TellEpochs, account_of, accounts_of, begun_in, parts_told, slot_in, turned_in}
 use Rattle.accounts.specs.Ground.{IsSettlementOf}
 use Rattle.accounts.proofs.Apart.{epochs_apart, numbers_of}
 
@@ -136,8 +136,8 @@ module _ (placed : Parcel → Option Place) where
     pub epoch_in : (telling : Telling) → Contains (tellings_in (turned_in file).history) telling →
         HasEpoch file.opened.begin.slot telling (epoch_of account (turned_in file).slot.0 telling.epoch)
     epoch_in telling there =
-        let numbers = epochs_apart file.opened.begin.epoch.0 file.opened.begin.base (tellings_in (turned_in file).history) filed.epochs in
-        let found = epoch_found file.opened.begin.slot (epochs_of file.opened.begin.epoch.0 file.opened.begin.base (parts_told file)) (tellings_in (turned_in file).history) telling
+        let numbers = epochs_apart (begun_in file).epoch (begun_in file).base (tellings_in (turned_in file).history) filed.epochs in
+        let found = epoch_found file.opened.begin.slot (epochs_of (begun_in file).epoch (begun_in file).base (parts_told file)) (tellings_in (turned_in file).history) telling
         filed.tell there numbers in
         record {
           epoch = found.epoch;
@@ -148,7 +148,7 @@ module _ (placed : Parcel → Option Place) where
         }
 
     pub begin_is_backed : (key path : List ℕ) (changed : Moment) → key ≡ file.opened.begin.key → changed.0 ≤ file.changed →
-        Backs account wires (Begin file.opened.begin.slot key path file.opened.begin.epoch file.opened.begin.base changed)
+        Backs account wires (Begin file.opened.begin.slot key path (record { 0 = (begun_in file).epoch }) (begun_in file).base changed)
     begin_is_backed key path changed key_is within = (
       record {
         one = account_of placed file;

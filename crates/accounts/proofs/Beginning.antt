@@ -7,18 +7,17 @@ use Rattle.ship_core.proofs.Members.{given_there}
 use Rattle.ship_core.specs.RowsOver.{slot_for, slots_for}
 use Rattle.wire_base.proofs.ByteOrder.{compare_same}
 use Rattle.wire_base.specs.declared.note.Note.{Note}
-use Rattle.wire_base.specs.declared.note.Note.TheVariants.{Begin}
 use Rattle.wire_base.specs.declared.parcel.Parcel.{Parcel}
-use Rattle.accounts.specs.Filed.{Filed, IsNoted, accounts_of, slot_in}
+use Rattle.accounts.specs.Filed.{Filed, IsNoted, accounts_of, its_begin, slot_in}
 
 slot_of_begin : (file : Filed) (notes : List Note) (noted : IsNoted notes file) →
-    slot_for file.opened.begin.key (Begin file.opened.begin.slot file.opened.begin.key noted.path file.opened.begin.epoch file.opened.begin.base noted.changed) ≡ Some (slot_in file)
+    slot_for file.opened.begin.key (its_begin file noted.path noted.changed) ≡ Some (slot_in file)
 slot_of_begin file notes noted = rw (compare_same file.opened.begin.key file.opened.begin.key refl) refl
 
 pub slot_there : (notes : List Note) (file : Filed) → IsNoted notes file → Contains (slots_for file.opened.begin.key notes) (slot_in file)
 slot_there notes file noted =
     let begin = file.opened.begin in
-    let note = Begin begin.slot begin.key noted.path begin.epoch begin.base noted.changed in
+    let note = its_begin file noted.path noted.changed in
     given_there (slot_for begin.key) notes note (slot_in file) noted.there (slot_of_begin file notes noted)
 
 pub are_begun : (placed : Parcel → Option Place) (notes : List Note) (files : List Filed) → AllByRecursion (IsNoted notes) files → AreBegun (accounts_of placed files) notes

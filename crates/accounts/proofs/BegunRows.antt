@@ -19,7 +19,7 @@ use Rattle.wire_base.specs.KeyOrder.{compare}
 use Rattle.wire_base.specs.declared.note.Note.{Note}
 use Rattle.wire_base.specs.declared.note.Note.TheVariants.{Begin}
 use Rattle.wire_base.specs.declared.row.Row.{Row}
-use Rattle.accounts.specs.Filed.{Filed, IsNoted, Removal, following_of, left_by, slot_in, turned_of}
+use Rattle.accounts.specs.Filed.{Filed, IsNoted, Removal, begun_in, following_of, its_begin, left_by, slot_in, turned_of}
 use Rattle.accounts.specs.FollowedFile.{key_in}
 use Rattle.accounts.specs.Ground.{HasGround}
 use Rattle.accounts.specs.Hidden.{Hidden, hidden_begin, hidden_following}
@@ -112,7 +112,7 @@ module _ (run : Run) (files : List Filed) (hiddens : List Hidden) (workers : Lis
     begun = each_then (IsNoted notes.told) (IsNoted notes.all) files (λ file noted. record {
       path = noted.path;
       changed = noted.changed;
-      there = told_in_all (Begin file.opened.begin.slot file.opened.begin.key noted.path file.opened.begin.epoch file.opened.begin.base noted.changed) noted.there;
+      there = told_in_all (its_begin file noted.path noted.changed) noted.there;
     }) told.told.begun;
     hidden_begun = each_then (λ (hidden : Hidden). Contains notes.told (hidden_begin hidden)) (λ (hidden : Hidden). Contains notes.all (hidden_begin hidden)) hiddens
         (λ hidden there. told_in_all (hidden_begin hidden) there) told.told.hidden_begun;
@@ -134,8 +134,8 @@ module _ (run : Run) (files : List Filed) (hiddens : List Hidden) (workers : Lis
   pub record IsBegunRow (file : Filed) (rows : List Row) : Type 0 where
     pub start : Start
     pub key_is : start.key ≡ key_in file
-    pub epoch_is : start.epoch ≡ file.opened.begin.epoch.0
-    pub base_is : start.base ≡ file.opened.begin.base
+    pub epoch_is : start.epoch ≡ (begun_in file).epoch
+    pub base_is : start.base ≡ (begun_in file).base
     pub of_rows : Contains rows (standing_row (notes_of (slot_in file) notes.all) start)
 
   -- it is the newest slot of its key, since it did not leave
@@ -156,7 +156,7 @@ module _ (run : Run) (files : List Filed) (hiddens : List Hidden) (workers : Lis
   begun_row file among stays rows over =
       let apart = slots_apart 0 files told.followed.slots in
       let started = is_started run files hiddens (acknowledged_in workers) notes.all apart told.beside are_notes file among in
-      let start : Start = record { key = key_in file; path = started.path; epoch = file.opened.begin.epoch.0; base = file.opened.begin.base } in
+      let start : Start = record { key = key_in file; path = started.path; epoch = (begun_in file).epoch; base = (begun_in file).base } in
       let row = standing_row (notes_of (slot_in file) notes.all) start in
       let stands = own_row_stands (slot_in file) notes.all start (none_forgotten run files hiddens (acknowledged_in workers) notes.all apart told.beside are_notes file among stays) started.is in
       let found = over.each (key_in file)

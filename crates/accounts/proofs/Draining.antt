@@ -25,7 +25,7 @@ use Rattle.wire_base.specs.declared.parcel.Parcel.{Parcel}
 use Rattle.wire_base.specs.declared.row.Row.{Row}
 use Rattle.accounts.specs.RunDone.{IsAmongFiles, RunDone, IsToldWhole}
 use Rattle.accounts.specs.Accounted.{followed_tail}
-use Rattle.accounts.specs.Filed.{Filed, Opening, Removal, account_of, accounts_of, slot_in, tail_by, told_over, turned_in}
+use Rattle.accounts.specs.Filed.{Filed, Opening, Removal, account_of, accounts_of, slot_in, tail_by, told_behind, told_over, turned_in, untold_by}
 use Rattle.accounts.specs.FollowedFile.{IsFollowedFile, key_in, tail_of}
 use Rattle.accounts.specs.Hidden.{Hidden, with_hidden}
 use Rattle.accounts.specs.Parted.{kept_looks}
@@ -123,14 +123,21 @@ module _ (run : Run) (scan : Scan) (files : List Filed) (hiddens : List Hidden) 
         followed.in_range followed.file_is
         ended row (sym is.key_is) (is.epoch_so ∙ ap (λ (h : History). h.present.epoch) told_once) (is.offset_so ∙ ap (λ (h : History). told_to h.present) told_once)
       where
-        -- it was opened once, and not removed
-        once_there : Contains files (record { opened = file.opened; turned = file.turned; looks = file.looks; changed = file.changed; known_from = file.known_from; later = []; removed = None })
-        once_there =
-            subst (λ (removed : Option Removal). Contains files (record { opened = file.opened; turned = file.turned; looks = file.looks; changed = file.changed; known_from = file.known_from; later = []; removed = removed })) whole.stays
-            (subst (λ (later : List Opening). Contains files (record { opened = file.opened; turned = file.turned; looks = file.looks; changed = file.changed; known_from = file.known_from; later = later; removed = file.removed })) whole.alone among)
+        -- it was opened once, as its slot begins, and not removed
+        once_there : Contains files (record { opened = file.opened; turned = file.turned; looks = file.looks; changed = file.changed; known_from = file.known_from; later = []; removed = None; shrank_from = None })
+        once_there = subst (Contains files) (λ k. record {
+          opened = file.opened;
+          turned = file.turned;
+          looks = file.looks;
+          changed = file.changed;
+          known_from = file.known_from;
+          later = whole.alone k;
+          removed = whole.stays k;
+          shrank_from = whole.as_begun k;
+        }) among
 
         told_once : (turned_in file).history ≡ file.turned.history
-        told_once = ap (told_over file.turned.history) whole.alone
+        told_once = λ k. told_behind (untold_by (whole.as_begun k)) (told_over file.turned.history (whole.alone k))
 
     -- the entry that an input covers shows it
     module _ (shown : Shown) (input : ℕ) (rule : InputRule) (rule_is : slice_get run.settings.inputs input ≡ Some rule) (input_is : file.opened.begin.input ≡ input)

@@ -208,7 +208,7 @@ ends_there h file before part in_range tells all_told read some = by_bytes h.pre
 
 -- a file that was opened once and told to its end
 pub is_read_to_its_end : (run : Run) (placed : Parcel → Option Place) (files : List Filed) (opened : Opened) (turned : Turned) (told : TailHistory) (changed known_from : ℕ) →
-    AreDistinct (map slot_in files) → Contains files (record { opened = opened; turned = turned; looks = told.looks; changed = changed; known_from = known_from; later = []; removed = None }) →
+    AreDistinct (map slot_in files) → Contains files (record { opened = opened; turned = turned; looks = told.looks; changed = changed; known_from = known_from; later = []; removed = None; shrank_from = None }) →
     IsToldFile (watch_in run) opened run.trace.moments turned (Some told) → GivesKey opened.rule opened.begin.key opened.begin.path opened.file opened.asked →
     IsGroupRule opened.rule.multiline → slice_get run.trace.files opened.number ≡ Some opened.file →
     IsToldToItsEnd turned.history →
@@ -219,7 +219,7 @@ is_read_to_its_end run placed files opened turned told changed known_from apart 
     let h = (joined_turned turned).history in
     let looked = joined.looked in
     let kept = kept_looks h told.looks in
-    let filed : Filed = record { opened = opened; turned = turned; looks = told.looks; changed = changed; known_from = known_from; later = []; removed = None } in
+    let filed : Filed = record { opened = opened; turned = turned; looks = told.looks; changed = changed; known_from = known_from; later = []; removed = None; shrank_from = None } in
     let exact = read_exactly h (joined_opened opened) told joined.tail.file joined.history.begin joined.history.rule looked joined.history.asked_before opened.asked gave
     (subst MayReopenAt (sym ended.ended) tt) in
     let on = (file_is_read (watch_in run) opened run.trace.moments turned told gave is).on in

@@ -4,7 +4,7 @@ use Rattle.std.specs.Prelude.{slice_get}
 use Rattle.std.specs.List.{AllByRecursion, flat_map}
 use Rattle.harvester.specs.History.{History}
 use Rattle.kept_rows.specs.Account.{FollowedTail, Following, Place, SlotAccount}
-use Rattle.kept_rows.specs.Followed.{AreRising, HadNoRow, HasWent, IsBegun, IsFollowedTail, IsFollowing, IsNewlyKnown, IsUnknownFrom, StartsAt, followed_openings, start_of}
+use Rattle.kept_rows.specs.Followed.{AreRising, HadNoRow, HasWent, IsBegun, IsFollowedTail, IsFollowing, IsNewlyKnown, IsUnknownFrom, Start, StartsAt, followed_openings, start_of}
 use Rattle.kept_rows.specs.Run.{Run, Scan}
 use Rattle.kept_rows.specs.Scans.{IsFirstPath, ShowsFileTo}
 use Rattle.outside.specs.declared.history.Shown.{Shown}
@@ -12,8 +12,8 @@ use Rattle.ship_core.proofs.Members.{first_there, later_there}
 use Rattle.ship_core.specs.Rows.{find}
 use Rattle.wire_base.specs.declared.parcel.Parcel.{Parcel}
 use Rattle.slot_parts.specs.Tails.{tails_of}
-use Rattle.accounts.specs.Filed.{Filed, Opening, account_of, accounts_of, first_opening, following_of, tail_by, told_both}
-use Rattle.accounts.specs.FollowedFile.{AreInSlots, AreReopened, BeganEarlier, BeginsThere, IsFollowedFile, begins_by, openings_in}
+use Rattle.accounts.specs.Filed.{Filed, Opening, account_of, accounts_of, begun_by, first_opening, following_of, tail_by, told_both}
+use Rattle.accounts.specs.FollowedFile.{AreInSlots, AreReopened, BeginsAs, IsFollowedFile, begins_by, openings_in}
 use Rattle.accounts.specs.Opened.{Opened}
 use Rattle.accounts.proofs.Lists.{got_behind}
 use Rattle.accounts.proofs.NamedKeys.{given_key_of_input}
@@ -60,18 +60,19 @@ starts_at run scan following input number shown shows first (suc earlier) starts
 
 module _ (run : Run) (file : Filed) (is : IsFollowedFile run file) where
   is_begun : IsBegun run (following_of file)
-  is_begun = by_case is.listed.begins
+  is_begun = by_case file.shrank_from refl is.listed.begins
     where
-      by_case : BeginsThere run file is.listed.last ⊎ BeganEarlier run file is.listed.last → IsBegun run (following_of file)
-      by_case (inl there) =
+      by_case : (from : Option Start) → file.shrank_from ≡ from → BeginsAs run file is.listed.last from → IsBegun run (following_of file)
+      by_case None same (inl there) =
           let last = is.listed.last in
           record {
             scan = last.scan;
             scan_is = ap (slice_get run.scans) there.number_is ∙ ap (λ (l : List Scan). slice_get l (length last.front)) last.scans_are ∙ got_behind last.front last.scan last.behind;
             starts = starts_at run last.scan (following_of file) file.opened.begin.input last.number last.shown last.shows
-                (subst (IsFirstPath run last.scan file.opened.begin.key last.number) (sym last.path_is) last.first) file.known_from there.starts;
+                (subst (IsFirstPath run last.scan file.opened.begin.key last.number) (sym last.path_is) last.first) file.known_from (ap (begun_by file.opened) same ∙ there.starts);
           }
-      by_case (inr earlier) = earlier.begun
+      by_case None same (inr earlier) = earlier.begun
+      by_case (Some start) same shrank = shrank.begun
 
   module _ (placed : Parcel → Option Place) where
     pub is_following : IsFollowing run (account_of placed file).following

@@ -36,7 +36,8 @@ tells_slots = record {
 }
 
 module _ (looks : Opened → List Look) (changed : Opened → ℕ) where
-  -- it has what its tail told and what was noted of it, was told of its slot, is known from the first scan on, was opened once, and was not removed
+  -- it has what its tail told and what was noted of it, was told of its slot, is known from the first scan on, was opened once, as its slot begins, and was
+  -- not removed
   pub record IsJoined (told : List Turned) (file : Filed) : Type 0 where
     pub looks_are : file.looks ≡ looks file.opened
     pub changed_is : file.changed ≡ changed file.opened
@@ -45,6 +46,7 @@ module _ (looks : Opened → List Look) (changed : Opened → ℕ) where
     pub known_is : file.known_from ≡ 0
     pub alone : file.later ≡ []
     pub stays : file.removed ≡ None
+    pub as_begun : file.shrank_from ≡ None
 
   pub record AreJoined (opened : List Opened) (told : List Turned) : Type 0 where
     pub files : List Filed
@@ -57,7 +59,7 @@ module _ (looks : Opened → List Look) (changed : Opened → ℕ) where
       AllByRecursion (IsJoined (front ++ turned ∷ behind)) files
   still_joined front behind turned [] each = tt
   still_joined front behind turned (file ∷ files) each = (
-    record { looks_are = each.0.looks_are; changed_is = each.0.changed_is; slot = each.0.slot; among = by_part (Contains-append_cases front behind file.turned each.0.among); known_is = each.0.known_is; alone = each.0.alone; stays = each.0.stays },
+    record { looks_are = each.0.looks_are; changed_is = each.0.changed_is; slot = each.0.slot; among = by_part (Contains-append_cases front behind file.turned each.0.among); known_is = each.0.known_is; alone = each.0.alone; stays = each.0.stays; as_begun = each.0.as_begun },
     still_joined front behind turned files each.1,
   )
     where
@@ -76,7 +78,7 @@ module _ (looks : Opened → List Look) (changed : Opened → ℕ) where
   join_one one opened turned front behind slot often join_others =
       let others = join_others (front ++ behind) fewer in
       record {
-        files = record { opened = one; turned = turned; looks = looks one; changed = changed one; known_from = 0; later = []; removed = None } ∷ others.files;
+        files = record { opened = one; turned = turned; looks = looks one; changed = changed one; known_from = 0; later = []; removed = None; shrank_from = None } ∷ others.files;
         opened_are = ap (λ (l : List Opened). one ∷ l) others.opened_are;
         turned_are = λ h.
             let later = others.turned_are h in
@@ -92,6 +94,7 @@ module _ (looks : Opened → List Look) (changed : Opened → ℕ) where
             known_is = refl;
             alone = refl;
             stays = refl;
+            as_begun = refl;
           },
           still_joined front behind turned others.files others.each,
         );

@@ -24,7 +24,7 @@ use Rattle.wire_base.specs.declared.numbers.Slot.{Slot}
 use Rattle.wire_base.specs.declared.parcel.Parcel.{Parcel}
 use Rattle.slot_parts.specs.Tellings.{tellings_in}
 use Rattle.accounts.specs.RunDone.{AreAllCollected}
-use Rattle.accounts.specs.Filed.{Filed, HasItsSlot, IsNoted, slot_in, turned_in, turned_of}
+use Rattle.accounts.specs.Filed.{Filed, HasItsSlot, IsNoted, begun_in, its_begin, slot_in, turned_in, turned_of}
 use Rattle.accounts.specs.Ground.{HasGround, IsEpochOf, IsNoteBy}
 use Rattle.accounts.specs.Hidden.{AreBeside, Hidden}
 use Rattle.accounts.specs.ToldNotes.{AreNotesOf}
@@ -164,7 +164,7 @@ module _ (run : Run) (files : List Filed) (hiddens : List Hidden) (workers : Lis
 
     -- ---- the greatest epoch
 
-    module _ (numbered : AreEpochsFrom file.opened.begin.epoch.0 file.opened.begin.base (tellings_in (turned_in file).history)) where
+    module _ (numbered : AreEpochsFrom (begun_in file).epoch (begun_in file).base (tellings_in (turned_in file).history)) where
       some_is : (given epoch : ℕ) → Some given ≡ Some epoch → given ≡ epoch
       some_is given epoch e = cc
 
@@ -172,15 +172,15 @@ module _ (run : Run) (files : List Filed) (hiddens : List Hidden) (workers : Lis
       epoch_within note epoch there slot names =
           own_note run files hiddens (acknowledged_in workers) notes apart beside are file among (λ (n : Note). epoch_of n ≡ Some epoch → slot_of n ≡ slot_in file → epoch ≤ present.epoch)
           (λ n begin e of_slot.
-          let is = some_is file.opened.begin.epoch.0 epoch (sym (ap epoch_of begin.is) ∙ e) in
-          let least = first_within file.opened.begin.epoch.0 file.opened.begin.base (turned_in file).history.past present numbered in
+          let is = some_is (begun_in file).epoch epoch (sym (ap epoch_of begin.is) ∙ e) in
+          let least = first_within (begun_in file).epoch (begun_in file).base (turned_in file).history.past present numbered in
           omega (arith, is, least))
           (λ n seen same e of_slot. absurd (let q : None ≡ Some epoch = sym (ap epoch_of seen.is) ∙ e in cc))
           (λ n ground e of_slot.
           let of = of_epoch (turned_of files) (acknowledged_in workers) n ground in
           let same = of_its_slot of.turned of.of.of_files (sym of.slot_is ∙ of_slot) in
           let is = some_is of.telling.epoch epoch (sym of.epoch_is ∙ e) in
-          let most = epochs_within file.opened.begin.epoch.0 file.opened.begin.base (turned_in file).history.past present of.telling numbered
+          let most = epochs_within (begun_in file).epoch (begun_in file).base (turned_in file).history.past present of.telling numbered
           (subst (λ (t : Turned). Contains (tellings_in t.history) of.telling) same of.of.of_file) in
           omega (arith, is, most))
           (λ n named e of_slot. absurd (let q : None ≡ Some epoch = sym (ap epoch_of named.is) ∙ e in cc))
@@ -188,14 +188,14 @@ module _ (run : Run) (files : List Filed) (hiddens : List Hidden) (workers : Lis
           note there slot names slot
 
       present_named : (noted : IsNoted notes file) → Contains (filter_map epoch_of own_notes) present.epoch
-      present_named noted = by_case (present_is_named (turned_in file).slot file.opened.begin.epoch.0 file.opened.begin.base (turned_in file).history.past present numbered)
+      present_named noted = by_case (present_is_named (turned_in file).slot (begun_in file).epoch (begun_in file).base (turned_in file).history.past present numbered)
         where
-          by_case : (present.epoch ≡ file.opened.begin.epoch.0) ⊎ Contains (notes_told (turned_in file)) (Announce (turned_in file).slot (record { 0 = present.epoch })) →
+          by_case : (present.epoch ≡ (begun_in file).epoch) ⊎ Contains (notes_told (turned_in file)) (Announce (turned_in file).slot (record { 0 = present.epoch })) →
               Contains (filter_map epoch_of own_notes) present.epoch
           by_case (inl is) =
-              let begin = Begin file.opened.begin.slot file.opened.begin.key noted.path file.opened.begin.epoch file.opened.begin.base noted.changed in
+              let begin = its_begin file noted.path noted.changed in
               let there = passed_there (λ (n : Note). slot_of n == slot_in file) notes begin noted.there (eq-eqb (slot_in file) (slot_in file) refl) in
-              subst (λ (n : ℕ). Contains (filter_map epoch_of own_notes) n) (sym is) (given_there epoch_of own_notes begin file.opened.begin.epoch.0 there refl)
+              subst (λ (n : ℕ). Contains (filter_map epoch_of own_notes) n) (sym is) (given_there epoch_of own_notes begin (begun_in file).epoch there refl)
           by_case (inr announced) =
               let note = Announce (turned_in file).slot (record { 0 = present.epoch }) in
               given_there epoch_of own_notes note present.epoch (collected_own note (told_is_collected (turned_in file) note turned_there announced) slot_is) refl
@@ -253,12 +253,12 @@ module _ (run : Run) (files : List Filed) (hiddens : List Hidden) (workers : Lis
         all_known (event ∷ told) known = (known event (first_there event told), all_known told (λ other there. known other (later_there event other told there)))
 
     -- it begins at the base of its Begin, or at the first byte
-    pub offset_is : (start : Start) → start.epoch ≡ file.opened.begin.epoch.0 → start.base ≡ file.opened.begin.base →
-        AreEpochsFrom file.opened.begin.epoch.0 file.opened.begin.base (tellings_in (turned_in file).history) → greatest_epoch own_notes ≡ present.epoch →
+    pub offset_is : (start : Start) → start.epoch ≡ (begun_in file).epoch → start.base ≡ (begun_in file).base →
+        AreEpochsFrom (begun_in file).epoch (begun_in file).base (tellings_in (turned_in file).history) → greatest_epoch own_notes ≡ present.epoch →
         Adjoin present.start (spans_of present.told) → offset_over start own_notes ≡ told_to present
     offset_is start number base numbered epoch adjoin =
         let base_is : base_in start (greatest_epoch own_notes) ≡ present.start =
-        ap (base_in start) epoch ∙ present_begins start file.opened.begin.epoch.0 file.opened.begin.base (turned_in file).history.past present number base numbered in
+        ap (base_in start) epoch ∙ present_begins start (begun_in file).epoch (begun_in file).base (turned_in file).history.past present number base numbered in
         ap (covered_end (spans_in (greatest_epoch own_notes) own_notes)) base_is
         ∙ ap (λ (n : ℕ). covered_end (spans_in n own_notes) present.start) epoch
         ∙ covers_all adjoin

@@ -21,7 +21,7 @@ use Rattle.wire_base.specs.declared.note.Note.{Note}
 use Rattle.wire_base.specs.declared.note.Note.TheVariants.{Announce, Begin, Forget, Rename, Seen, Settle}
 use Rattle.wire_base.specs.declared.numbers.Slot.{Slot}
 use Rattle.wire_base.specs.declared.parcel.Parcel.{Parcel}
-use Rattle.accounts.specs.Filed.{Filed, IsNoted, following_of, slot_in, turned_of}
+use Rattle.accounts.specs.Filed.{Filed, IsNoted, begun_in, following_of, its_begin, slot_in, turned_of}
 use Rattle.accounts.specs.Hidden.{AreBeside, Hidden, hidden_begin, hidden_following, hidden_forget, hidden_key, hidden_slot}
 use Rattle.accounts.specs.ToldNotes.{AreNotesOf, IsBeginOf, IsForgetOf, IsKnownNote, IsMomentOfOne, IsNamingOf, IsOfFile, IsOfHidden}
 use Rattle.accounts.specs.FollowedFile.{key_in}
@@ -211,7 +211,7 @@ module _ (run : Run) (files : List Filed) (hiddens : List Hidden) (acknowledged 
     -- ---- its Begin
 
     abbrev start_with : List ℕ → Start
-    start_with path = record { key = key_in file; path = path; epoch = file.opened.begin.epoch.0; base = file.opened.begin.base }
+    start_with path = record { key = key_in file; path = path; epoch = (begun_in file).epoch; base = (begun_in file).base }
 
     pub record IsStarted : Type 0 where
       pub path : List ℕ
@@ -220,7 +220,7 @@ module _ (run : Run) (files : List Filed) (hiddens : List Hidden) (acknowledged 
     pub is_started : IsStarted
     is_started =
         let noted = member_is (IsNoted notes) files file are.begun among in
-        let begin = Begin file.opened.begin.slot (key_in file) noted.path file.opened.begin.epoch file.opened.begin.base noted.changed in
+        let begin = its_begin file noted.path noted.changed in
         let parts = parts_at notes begin noted.there in
         let none : notes_of (slot_in file) parts.0 ≡ [] = are.orderly.each parts.0 begin parts.1 parts.2 in
         let p = λ (note : Note). slot_of note == slot_in file in

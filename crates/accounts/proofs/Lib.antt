@@ -79,5 +79,6 @@ pub mod WorkedRenamed
 pub mod WorkedReopened
 pub mod WorkedRun
 pub mod WorkedScans
+pub mod WorkedShrankBefore
 pub mod WorkedShrunk
 pub mod WorkedTurns

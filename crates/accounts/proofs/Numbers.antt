@@ -25,7 +25,7 @@ use Rattle.slot_parts.specs.Account.{epoch_account, events_from}
 use Rattle.slot_parts.specs.Parts.{EpochParts, Part, epochs_of, told_in}
 use Rattle.slot_parts.specs.Tellings.{tellings_in}
 use Rattle.accounts.specs.Accounted.{place_by, place_in}
-use Rattle.accounts.specs.Filed.{Filed, IsFiled, TellEpochs, account_of, accounts_of, parts_told, turned_in, turned_of}
+use Rattle.accounts.specs.Filed.{Filed, IsFiled, TellEpochs, account_of, accounts_of, begun_in, parts_told, turned_in, turned_of}
 use Rattle.accounts.specs.Numbers.{AreAllCounted, AreNumbersOf, IsAcknowledgedOrDropped, acknowledged_count, all_events, dropped_count, is_acknowledged, is_by_rule, is_dropped, told_in_epoch, told_in_slot}
 use Rattle.accounts.specs.Once.{AreOnce, one_where}
 use Rattle.accounts.specs.Places.{ArePlaces}
@@ -167,7 +167,7 @@ module _ (placed : Parcel → Option Place) (h : AccountedEvent → ℕ) (g : Pa
   file_weighs file filed =
       let slot = file.opened.begin.slot in
       let tellings = tellings_in (turned_in file).history in
-      let all = epochs_weigh slot (epochs_of file.opened.begin.epoch.0 file.opened.begin.base (parts_told file)) tellings filed.tell in
+      let all = epochs_weigh slot (epochs_of (begun_in file).epoch (begun_in file).base (parts_told file)) tellings filed.tell in
       let first = first_weighs slot tellings in
       let parcels : weigh g (parcels_told (turned_in file)) ≡ weigh g (flat_map (parcels_in slot) tellings) = ap (λ (s : Slot). weigh g (flat_map (parcels_in s) tellings)) filed.slot in
       let notes : weigh k (notes_told (turned_in file)) ≡ weigh k (notes_in slot tellings) = ap (λ (s : Slot). weigh k (notes_in s tellings)) filed.slot in

@@ -7,6 +7,7 @@ use Rattle.event_tree.specs.declared.input_rule.InputRule.{InputRule}
 use Rattle.harvester.specs.History.{History, IsTelling}
 use Rattle.kept_rows.specs.Account.{FollowedTail, Place, SlotAccount}
 use Rattle.kept_rows.specs.Epochs.{AreEpochs}
+use Rattle.kept_rows.specs.Followed.{Start}
 use Rattle.kept_rows.specs.Lost.{WentBy}
 use Rattle.kept_rows.specs.Premises.{KeepsIdentity, SlotPremises, TailKeepsIdentity}
 use Rattle.kept_rows.specs.Run.{Run, Scan}
@@ -29,7 +30,7 @@ use Rattle.told_events.specs.Told.{ToldEvent}
 use Rattle.wire_base.specs.declared.parcel.Parcel.{Parcel}
 use Rattle.accounts.specs.Accounted.{place_in}
 use Rattle.accounts.specs.Filed.{Filed, Opening, account_of, first_opening, following_of, last_of, last_opening, left_in, tail_by, tails_in, told_both}
-use Rattle.accounts.specs.FollowedFile.{AreKnownTo, AreReopened, BeganEarlier, BeginsThere, IsFollowedFile, IsKnownTo, IsMomentOf, IsOpeningOf, WasShownLast, moment_by}
+use Rattle.accounts.specs.FollowedFile.{AreKnownTo, AreReopened, BeginsAs, IsFollowedFile, IsKnownTo, IsMomentOf, IsOpeningOf, WasShownLast, moment_by}
 use Rattle.accounts.specs.Opened.{Opened}
 use Rattle.accounts.specs.ToldFile.{IsToldBy, events_in}
 use Rattle.accounts.specs.Watch.{MayFindEnd, Name}
@@ -326,11 +327,12 @@ module _ (run : Run) (placed : Parcel → Option Place) (file : Filed) (is : IsF
 
   -- the scans that listed it as it was opened are since its key is known
   pub known_first : file.known_from ≤ length is.listed.last.front
-  known_first = by_case is.listed.begins
+  known_first = by_case file.shrank_from is.listed.begins
     where
-      by_case : BeginsThere run file is.listed.last ⊎ BeganEarlier run file is.listed.last → file.known_from ≤ length is.listed.last.front
-      by_case (inl there) = let number = there.number_is in omega (arith, number)
-      by_case (inr before) = let less = before.earlier in omega (arith, less)
+      by_case : (from : Option Start) → BeginsAs run file is.listed.last from → file.known_from ≤ length is.listed.last.front
+      by_case None (inl there) = let number = there.number_is in omega (arith, number)
+      by_case None (inr before) = let less = before.earlier in omega (arith, less)
+      by_case (Some start) shrank = let less = shrank.earlier in omega (arith, less)
 
   shown_later : (last : Opening) (shown : WasShownLast run last.opened) → last.opened.begin.key ≡ file.opened.begin.key → file.known_from ≤ length shown.front → (so_far : History) (later : List Opening) →
       (are : AreReopened run file.opened last so_far later) → IfSome (left_in file) (λ number. AreKnownTo run number file.opened last so_far later are) →

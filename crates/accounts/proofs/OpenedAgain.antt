@@ -1,10 +1,11 @@
 -- What was told of files over all their openings is, as often, what each of their tails told, with the epochs that were announced as files
 -- were opened again.
-use Rattle.std.proofs.Common.{◌≡◌, ℕ, ◌+◌, ◌==◌, Bool, true, false, List, [], ◌∷◌, ◌++◌, length, map, refl, sym, ap, ◌∙◌, append_assoc, append-nil, arith, if◌then◌else◌}
+use Rattle.std.proofs.Common.{◌≡◌, ℕ, ◌+◌, ◌==◌, Bool, true, false, List, [], ◌∷◌, ◌++◌, length, map, Option, None, Some, refl, sym, ap, ◌∙◌, append_assoc, append-nil, arith, if◌then◌else◌}
 use Rattle.std.specs.List.{flat_map}
 use Rattle.std.proofs.lemmas.Bool.{eqb-true}
 use Rattle.std.proofs.lemmas.List.{length-append}
 use Rattle.harvester.specs.History.{History, Telling}
+use Rattle.kept_rows.specs.Followed.{Start}
 use Rattle.pass_sums.proofs.Weights.{weigh-append}
 use Rattle.pass_sums.specs.Weight.{AsOften, weigh}
 use Rattle.slot_parts.specs.Tellings.{tellings_in}
@@ -13,8 +14,8 @@ use Rattle.wire_base.specs.declared.note.Note.{Note}
 use Rattle.wire_base.specs.declared.note.Note.TheVariants.{Announce}
 use Rattle.wire_base.specs.declared.numbers.Slot.{Slot}
 use Rattle.wire_base.specs.declared.parcel.Parcel.{Parcel}
-use Rattle.accounts.specs.Filed.{Filed, Opening, told_both, told_on, told_over, turned_in, turned_of}
-use Rattle.accounts.specs.OpenedAgain.{announced_after, announced_again, announced_over, each_turned, turned_by}
+use Rattle.accounts.specs.Filed.{Filed, Opening, told_behind, told_both, told_on, told_over, turned_in, turned_of, untold_by}
+use Rattle.accounts.specs.OpenedAgain.{announced_after, announced_again, announced_first, announced_over, each_turned, turned_by}
 use Rattle.accounts.specs.Turned.{Turned, announced_in, events_in, notes_in, notes_told, parcels_by, parcels_in, parcels_told, settlements_by, settlements_in, spans_in}
 use Rattle.accounts.proofs.Lists.{flat_map_both, flat_map_last}
 use Rattle.accounts.proofs.Reopened.{behind_tellings, tellings_behind}
@@ -49,6 +50,49 @@ module _ {A : Type 0} (f : Telling → List A) (on : (before next : Telling) →
       ∙ ap (λ (l : List A). l ++ rest) (both_of so_far next.history)
       ∙ append_assoc (flat_map f (tellings_in so_far)) (flat_map f (tellings_in next.history)) rest
 
+-- ---- an epoch of which nothing was told
+
+module _ (slot : Slot) where
+  behind_gave : (from : Option Start) (h : History) → flat_map (parcels_in slot) (tellings_in (told_behind (untold_by from) h)) ≡ flat_map (parcels_in slot) (tellings_in h)
+  behind_gave None h = refl
+  behind_gave (Some start) h = refl
+
+  -- the first tail's epoch is announced
+  behind_announced : (from : Option Start) (h : History) →
+      notes_in slot (tellings_in (told_behind (untold_by from) h)) ≡ announced_first slot from (tellings_in h) ++ notes_in slot (tellings_in h)
+  behind_announced None h = refl
+  behind_announced (Some start) h = by_past h.past
+    where
+      by_past : (past : List Telling) →
+          flat_map (announced_in slot) (past ++ h.present ∷ []) ≡ announced_first slot (Some start) (past ++ h.present ∷ []) ++ notes_in slot (past ++ h.present ∷ [])
+      by_past [] = refl
+      by_past (one ∷ past) = refl
+
+  -- what later tails told leaves it the first
+  still_first : (from : Option Start) (so_far : History) (later : List Opening) →
+      announced_first slot from (tellings_in (told_over so_far later)) ≡ announced_first slot from (tellings_in so_far)
+  still_first None so_far later = refl
+  still_first (Some start) so_far [] = refl
+  still_first (Some start) so_far (next ∷ later) =
+      still_first (Some start) (told_both so_far next.history) later
+      ∙ ap (announced_first slot (Some start)) (tellings_behind so_far.past so_far.present next.history next.history.past)
+      ∙ by_past so_far.past (next.history.past ++ next.history.present ∷ [])
+    where
+      by_past : (past tellings : List Telling) →
+          announced_first slot (Some start) (past ++ behind_tellings so_far.present tellings) ≡ announced_first slot (Some start) (past ++ so_far.present ∷ [])
+      by_past (one ∷ past) tellings = refl
+      by_past [] [] = refl
+      by_past [] (first ∷ others) = by_case (first.epoch == so_far.present.epoch)
+        where
+          by_case : (b : Bool) → announced_first slot (Some start) (if b then told_on so_far.present first ∷ others else so_far.present ∷ first ∷ others)
+              ≡ announced_first slot (Some start) (so_far.present ∷ [])
+          by_case true = refl
+          by_case false = refl
+
+behind_events : (from : Option Start) (h : History) → events_in (tellings_in (told_behind (untold_by from) h)) ≡ events_in (tellings_in h)
+behind_events None h = refl
+behind_events (Some start) h = omega arith
+
 -- ---- parcels
 
 parcels_on : (slot : Slot) (before next : Telling) → next.epoch ≡ before.epoch → parcels_in slot (told_on before next) ≡ parcels_in slot before ++ parcels_in slot next
@@ -62,7 +106,8 @@ each_mapped f slot (one ∷ later) = ap (λ l. f (turned_by slot one) ++ l) (eac
 
 parcels_of_file : (file : Filed) → parcels_told (turned_in file) ≡ flat_map parcels_told (each_turned file)
 parcels_of_file file =
-    over_of (parcels_in file.turned.slot) (parcels_on file.turned.slot) file.turned.history file.later
+    behind_gave file.turned.slot file.shrank_from (told_over file.turned.history file.later)
+    ∙ over_of (parcels_in file.turned.slot) (parcels_on file.turned.slot) file.turned.history file.later
     ∙ ap (λ (l : List Parcel). parcels_told file.turned ++ l) (each_mapped parcels_told file.turned.slot file.later)
 
 pub parcels_of_all : (files : List Filed) → flat_map parcels_told (turned_of files) ≡ flat_map parcels_told (flat_map each_turned files)
@@ -101,10 +146,11 @@ spans_of_both (one ∷ first) second = let rest = spans_of_both first second in 
 pub spans_of_all : (files : List Filed) → spans_in (turned_of files) ≡ spans_in (flat_map each_turned files)
 spans_of_all [] = refl
 spans_of_all (file ∷ files) =
+    let before = behind_events file.shrank_from (told_over file.turned.history file.later) in
     let own = spans_over file.turned.slot file.turned.history file.later in
     let others = spans_of_all files in
     let both = spans_of_both (each_turned file) (flat_map each_turned files) in
-    omega (arith, own, others, both)
+    omega (arith, before, own, others, both)
 
 -- ---- notes
 
@@ -196,17 +242,25 @@ notes_of_all [] h = refl
 notes_of_all (file ∷ files) h =
     let first = notes_told file.turned in
     let later = flat_map notes_told (map (turned_by file.turned.slot) file.later) in
+    let rise = announced_first file.turned.slot file.shrank_from (tellings_in file.turned.history) in
+    let over = announced_over file.turned.slot file.turned.history file.later in
+    let all = told_over file.turned.history file.later in
+    let before =
+    ap (weigh h) (behind_announced file.turned.slot file.shrank_from all
+    ∙ ap (λ (l : List Note). l ++ notes_in file.turned.slot (tellings_in all)) (still_first file.turned.slot file.shrank_from file.turned.history file.later)) in
     let own = notes_over file.turned.slot file.turned.history file.later h in
     let others = notes_of_all files h in
+    let k = weigh-append h rise (notes_in file.turned.slot (tellings_in all)) in
+    let l = weigh-append h rise over in
     let rest = flat_map notes_told (flat_map each_turned files) in
     let again = flat_map announced_again files in
     let a = weigh-append h (notes_told (turned_in file)) (flat_map notes_told (turned_of files)) in
-    let b = weigh-append h first (later ++ announced_again file) in
-    let c = weigh-append h later (announced_again file) in
+    let b = weigh-append h first (later ++ over) in
+    let c = weigh-append h later over in
     let d = weigh-append h rest again in
     let e = weigh-append h (flat_map notes_told (each_turned file ++ flat_map each_turned files)) (announced_again file ++ again) in
     let f = ap (weigh h) (flat_map_both notes_told (each_turned file) (flat_map each_turned files)) in
     let g = weigh-append h (first ++ later) rest in
     let i = weigh-append h first later in
     let j = weigh-append h (announced_again file) again in
-    omega (arith, own, others, a, b, c, d, e, f, g, i, j)
+    omega (arith, before, own, others, a, b, c, d, e, f, g, i, j, k, l)

@@ -24,8 +24,8 @@ use Rattle.slot_parts.specs.Parts.{epochs_of}
 use Rattle.slot_parts.specs.Tails.{GoOnBehind, GoesOnBehind, parts_by, parts_in, segments_by, started, tails_of}
 use Rattle.slot_parts.specs.Tellings.{AreNumberedFrom, parts_of, tellings_in}
 use Rattle.wire_base.specs.declared.row.Row.{Row}
-use Rattle.accounts.specs.Filed.{Filed, IsFiled, Opening, TellEpochs, first_opening, last_of, last_opening, parts_told, tail_by, tails_in, told_both, told_over, turned_in}
-use Rattle.accounts.specs.FollowedFile.{AreReopened, BeganEarlier, BeginsThere, IsFollowedFile, IsOpeningOf, IsReopened, MayReopenAt, WasShownLast, begins_by, start_in, tail_with}
+use Rattle.accounts.specs.Filed.{Filed, IsFiled, Opening, TellEpochs, begun_by, begun_in, first_opening, last_of, last_opening, parts_told, tail_by, tails_in, told_behind, told_both, told_over, turned_in, untold_by}
+use Rattle.accounts.specs.FollowedFile.{AreReopened, BeganEarlier, BeginsAs, BeginsThere, IsFollowedFile, IsOpeningOf, IsReopened, MayReopenAt, WasShownLast, begins_by, start_in, tail_with}
 use Rattle.accounts.specs.Opened.{Opened}
 use Rattle.accounts.specs.Parted.{kept_looks}
 use Rattle.accounts.specs.ToldFile.{AreEpochsFrom}
@@ -35,7 +35,7 @@ use Rattle.accounts.proofs.Apart.{EachAdjoins, IsInEpochs}
 use Rattle.accounts.proofs.JoinedFile.{joined_opened, joined_turned, told_joined}
 use Rattle.accounts.proofs.Lists.{each_then}
 use Rattle.accounts.proofs.Reopened.{GoesOnFrom, HasEpochs, IsSoFar, first_so_far, goes_on_from, merged, merged_first, merged_is, next_so_far, tellings_of}
-use Rattle.accounts.proofs.Runs.{PartsTell, StartFrom, epochs_tell, last_tell, parts_tell, start_behind}
+use Rattle.accounts.proofs.Runs.{PartsTell, StartFrom, StartsWith, epochs_tell, last_tell, parts_tell, risen_tell, start_behind}
 use Rattle.accounts.proofs.Segmented.{IsReadExactly, IsReadSo, as_many, opened_with_key, read_exactly}
 use Rattle.accounts.proofs.Slots.{file_is_read, kept_are_looks, tells_both}
 
@@ -238,6 +238,18 @@ module _ (run : Run) (first : Opened) (in_range : IsGroupRule first.rule.multili
 abbrev start_base : Start → ℕ
 start_base start = start.base
 
+abbrev start_epoch : Start → ℕ
+start_epoch start = start.epoch
+
+-- epochs that are numbered from the one behind this
+rise_behind : (epoch next base : ℕ) (tellings : List Telling) → next ≡ epoch + 1 → base ≡ 0 → AreEpochsFrom next base tellings → AreNumberedFrom epoch tellings
+rise_behind epoch next base [] number place are = absurd are
+rise_behind epoch next base (first ∷ later) number place are = (are.0 ∙ number, are.1 ∙ place, subst (λ (n : ℕ). AreNumberedFrom n later) number are.2)
+
+starts_as : (epoch base : ℕ) (tellings rest : List Telling) → AreEpochsFrom epoch base tellings → StartsWith epoch (tellings ++ rest)
+starts_as epoch base [] rest are = absurd are
+starts_as epoch base (first ∷ later) rest are = are.0
+
 -- what is begun by a row is begun within the size
 within_size : (row : Option Row) (size : ℕ) → (start_by row size).base ≤ size
 within_size None size = omega arith
@@ -265,18 +277,43 @@ module _ (run : Run) (file : Filed) (is : IsFollowedFile run file) where
     told = record { slot = refl; history = is.told.history; epochs = is.told.epochs; looked = is.told.looked; tail = is.told.tail; tells = is.told.tells };
   }
 
+  -- with which epoch and place its first tail was opened
+  abbrev own_epoch : ℕ
+  own_epoch = file.opened.begin.epoch.0
+
+  abbrev own_base : ℕ
+  own_base = file.opened.begin.base
+
+  -- and with which its slot begins
   abbrev epoch : ℕ
-  epoch = file.opened.begin.epoch.0
+  epoch = (begun_in file).epoch
 
   abbrev base : ℕ
-  base = file.opened.begin.base
+  base = (begun_in file).base
 
-  first_is_so_far : IsSoFar epoch base file.turned.history file.turned.history
-  first_is_so_far = first_so_far epoch base file.turned.history is.told.history.epochs (spans_adjoin run file.opened (first_opening file) first_is_opening is.in_range)
+  -- what its tails told
+  abbrev so_told : History
+  so_told = told_over file.turned.history file.later
+
+  first_is_so_far : IsSoFar own_epoch own_base file.turned.history file.turned.history
+  first_is_so_far = first_so_far own_epoch own_base file.turned.history is.told.history.epochs (spans_adjoin run file.opened (first_opening file) first_is_opening is.in_range)
+
+  own_so_far : IsSoFar own_epoch own_base so_told (last_opening file).history
+  own_so_far = in_epochs run file.opened is.in_range own_epoch own_base (first_opening file) file.turned.history file.later first_is_so_far is.reopened
 
   -- what was told of it over all its openings ends where the last one does
   pub all_so_far : IsSoFar epoch base (turned_in file).history (last_opening file).history
-  all_so_far = in_epochs run file.opened is.in_range epoch base (first_opening file) file.turned.history file.later first_is_so_far is.reopened
+  all_so_far = by_case file.shrank_from is.listed.begins
+    where
+      by_case : (from : Option Start) → BeginsAs run file is.listed.last from →
+          IsSoFar (begun_by file.opened from).epoch (begun_by file.opened from).base (told_behind (untold_by from) so_told) (last_opening file).history
+      by_case None begins = record { epochs = own_so_far.epochs; adjoin = own_so_far.adjoin; epoch_is = own_so_far.epoch_is; place_is = own_so_far.place_is }
+      by_case (Some start) shrank = record {
+        epochs = (refl, refl, rise_behind start.epoch own_epoch own_base (tellings_in so_told) (ap start_epoch shrank.starts) (ap start_base shrank.starts) own_so_far.epochs);
+        adjoin = (tt, own_so_far.adjoin);
+        epoch_is = own_so_far.epoch_is;
+        place_is = own_so_far.place_is;
+      }
 
   pub file_in_epochs : IsInEpochs (turned_in file)
   file_in_epochs = record { epoch = epoch; base = base; epochs = all_so_far.epochs; adjoin = all_so_far.adjoin }
@@ -284,34 +321,47 @@ module _ (run : Run) (file : Filed) (is : IsFollowedFile run file) where
   pub file_epochs : AreEpochsFrom epoch base (tellings_in (turned_in file).history)
   file_epochs = all_so_far.epochs
 
-  tell_epochs : TellEpochs (epochs_of epoch base (parts_told file)) (tellings_in (turned_in file).history)
-  tell_epochs = by_tellings (tellings_in file.turned.history) refl is.told.history.epochs
+  own_tell : TellEpochs (epochs_of own_epoch own_base (parts_told file)) (tellings_in so_told)
+  own_tell = by_tellings (tellings_in file.turned.history) refl is.told.history.epochs
     where
-      by_tellings : (tellings : List Telling) → tellings_in file.turned.history ≡ tellings → AreEpochsFrom epoch base tellings →
-          TellEpochs (epochs_of epoch base (parts_told file)) (tellings_in (turned_in file).history)
+      by_tellings : (tellings : List Telling) → tellings_in file.turned.history ≡ tellings → AreEpochsFrom own_epoch own_base tellings →
+          TellEpochs (epochs_of own_epoch own_base (parts_told file)) (tellings_in so_told)
       by_tellings [] are epochs = absurd epochs
       by_tellings (telling ∷ later) are epochs =
           let rest = tellings_of file.later in
           let tell : PartsTell (parts_told file) (telling ∷ (later ++ rest)) =
           subst (λ (l : List Telling). PartsTell (parts_told file) (l ++ rest)) are
           (all_tell run file.opened is.in_range (first_opening file) file.turned.history file.later first_is_opening is.reopened) in
-          let behind = start_later run file.opened is.in_range epoch base (first_opening file) file.turned.history file.later first_is_so_far is.reopened in
-          let all : merged telling (later ++ rest) ≡ tellings_in (turned_in file).history =
-          merged_first epoch base file.turned.history.past file.turned.history.present telling later rest are is.told.history.epochs
+          let behind = start_later run file.opened is.in_range own_epoch own_base (first_opening file) file.turned.history file.later first_is_so_far is.reopened in
+          let all : merged telling (later ++ rest) ≡ tellings_in so_told =
+          merged_first own_epoch own_base file.turned.history.past file.turned.history.present telling later rest are is.told.history.epochs
           ∙ sym (merged_is file.turned.history file.later (each_reopened run file.opened is.in_range (λ (one : Opening). HasEpochs one.history) (λ last so_far next again. has_epochs run file.opened next again.is)
           (first_opening file) file.turned.history file.later is.reopened)) in
-          subst (TellEpochs (epochs_of epoch base (parts_told file))) all
-          (epochs_tell epoch base (parts_told file) telling (later ++ rest) epochs.0 epochs.1 tell
+          subst (TellEpochs (epochs_of own_epoch own_base (parts_told file))) all
+          (epochs_tell own_epoch own_base (parts_told file) telling (later ++ rest) epochs.0 epochs.1 tell
           (starts_first file.turned.history.past file.turned.history.present telling later rest are is.told.history.epochs behind))
         where
-          starts_first : (past : List Telling) (last one : Telling) (ones rest : List Telling) → past ++ last ∷ [] ≡ one ∷ ones → AreEpochsFrom epoch base (past ++ last ∷ []) →
-              StartFrom last.epoch rest → StartFrom epoch (ones ++ rest)
+          starts_first : (past : List Telling) (last one : Telling) (ones rest : List Telling) → past ++ last ∷ [] ≡ one ∷ ones → AreEpochsFrom own_epoch own_base (past ++ last ∷ []) →
+              StartFrom last.epoch rest → StartFrom own_epoch (ones ++ rest)
           starts_first [] last one ones rest are epochs behind =
               let none : [] ≡ ones = cc in
-              subst (λ (l : List Telling). StartFrom epoch (l ++ rest)) none (subst (λ (n : ℕ). StartFrom n rest) epochs.0 behind)
+              subst (λ (l : List Telling). StartFrom own_epoch (l ++ rest)) none (subst (λ (n : ℕ). StartFrom n rest) epochs.0 behind)
           starts_first (other ∷ past) last one ones rest are epochs behind =
               let others : past ++ last ∷ [] ≡ ones = cc in
-              subst (λ (l : List Telling). StartFrom epoch (l ++ rest)) others (start_behind epoch epoch past last rest epochs.2 behind)
+              subst (λ (l : List Telling). StartFrom own_epoch (l ++ rest)) others (start_behind own_epoch own_epoch past last rest epochs.2 behind)
+
+  tell_epochs : TellEpochs (epochs_of epoch base (parts_told file)) (tellings_in (turned_in file).history)
+  tell_epochs = by_case file.shrank_from is.listed.begins
+    where
+      by_case : (from : Option Start) → BeginsAs run file is.listed.last from →
+          TellEpochs (epochs_of (begun_by file.opened from).epoch (begun_by file.opened from).base (parts_told file)) (tellings_in (told_behind (untold_by from) so_told))
+      by_case None begins = own_tell
+      by_case (Some start) shrank =
+          let none : own_base ≡ 0 = ap start_base shrank.starts in
+          risen_tell start.epoch start.base own_epoch (parts_told file) (tellings_in file.turned.history ++ tellings_of file.later) (tellings_in so_told) (ap start_epoch shrank.starts)
+          (starts_as own_epoch own_base (tellings_in file.turned.history) (tellings_of file.later) is.told.history.epochs)
+          (all_tell run file.opened is.in_range (first_opening file) file.turned.history file.later first_is_opening is.reopened)
+          (subst (λ (n : ℕ). TellEpochs (epochs_of own_epoch n (parts_told file)) (tellings_in so_told)) none own_tell)
 
   pub is_filed : IsFiled file
   is_filed = record { slot = is.told.slot; epochs = file_epochs; tell = tell_epochs }
@@ -321,23 +371,31 @@ module _ (run : Run) (file : Filed) (is : IsFollowedFile run file) where
   abbrev shown : WasShownLast run file.opened
   shown = is.listed.last
 
-  begins_within : base ≤ shown.shown.entry.size
-  begins_within = by_case is.listed.begins
-    where
-      by_case : BeginsThere run file shown ⊎ BeganEarlier run file shown → base ≤ shown.shown.entry.size
-      by_case (inl there) =
-          let starts : base ≡ start_base (begins_by file.known_from (find file.opened.begin.key run.opening) shown.shown.entry.size) = ap start_base there.starts in
-          let within = within_listed file.known_from (find file.opened.begin.key run.opening) shown.shown.entry.size in
-          omega (arith, starts, within)
-      by_case (inr earlier) = earlier.within
+  begins_within : BeginsThere run file shown ⊎ BeganEarlier run file shown → own_base ≤ shown.shown.entry.size
+  begins_within (inl there) =
+      let starts : own_base ≡ start_base (begins_by file.known_from (find file.opened.begin.key run.opening) shown.shown.entry.size) = ap start_base there.starts in
+      let within = within_listed file.known_from (find file.opened.begin.key run.opening) shown.shown.entry.size in
+      omega (arith, starts, within)
+  begins_within (inr earlier) = earlier.within
 
   first_starts : start_in file.opened ≡ goes_on epoch base shown.shown.entry.size
-  first_starts = sym (cond-true _ (record { epoch = epoch; base = base }) (record { epoch = epoch + 1; base = 0 }) (le-leb base shown.shown.entry.size begins_within))
+  first_starts = by_case file.shrank_from is.listed.begins
+    where
+      size : ℕ
+      size = shown.shown.entry.size
+
+      by_case : (from : Option Start) → BeginsAs run file shown from → start_in file.opened ≡ goes_on (begun_by file.opened from).epoch (begun_by file.opened from).base size
+      by_case None begins = sym (cond-true _ (record { epoch = own_epoch; base = own_base }) (record { epoch = own_epoch + 1; base = 0 }) (le-leb own_base size (begins_within begins)))
+      by_case (Some start) shrank = by_size (nat_le start.base size) refl
+        where
+          by_size : (b : Bool) → nat_le start.base size ≡ b → start_in file.opened ≡ (if b then start else record { epoch = start.epoch + 1; base = 0 })
+          by_size true e = absurd (let within = leb-true start.base size e in let below = shrank.below in omega (arith, within, below))
+          by_size false e = shrank.starts
 
   pub file_goes_on : GoOnBehind run file.opened.begin.key file.opened.rule.multiline epoch base (tails_in file)
   file_goes_on = (
     one_goes_on run file.opened (first_opening file) first_is_opening shown epoch base first_starts,
-    go_on_behind run file.opened is.in_range epoch base (first_opening file) file.turned.history file.later
+    go_on_behind run file.opened is.in_range own_epoch own_base (first_opening file) file.turned.history file.later
         (epoch_after epoch (parts_by file.opened.rule.multiline (tail_by (first_opening file))))
         (place_after base (parts_by file.opened.rule.multiline (tail_by (first_opening file)))) first_is_so_far
         (λ may. let at = ends_exactly run file.opened (first_opening file) first_is_opening file.opened.rule.multiline may epoch base in (at.epoch_is, at.place_is))

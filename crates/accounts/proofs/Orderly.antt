@@ -17,7 +17,7 @@ use Rattle.slot_parts.specs.Account.{epoch_account}
 use Rattle.slot_parts.specs.Parts.{EpochParts, epochs_of, told_in}
 use Rattle.slot_parts.specs.Tellings.{tellings_in}
 use Rattle.accounts.specs.Accounted.{place_in}
-use Rattle.accounts.specs.Filed.{Filed, IsFiled, TellEpochs, accounts_of, parts_told, turned_in}
+use Rattle.accounts.specs.Filed.{Filed, IsFiled, TellEpochs, accounts_of, begun_in, parts_told, turned_in}
 use Rattle.accounts.specs.Ground.{IsEpochOf}
 use Rattle.accounts.specs.Turned.{Turned}
 use Rattle.accounts.proofs.Apart.{EachAdjoins, IsInEpochs, epochs_apart}
@@ -114,7 +114,7 @@ are_in_rows placed [] filed adjoin numbered = tt
 are_in_rows placed (file ∷ files) filed adjoin numbered = (
   record {
     numbered = numbered.0;
-    adjoin = epochs_adjoin (place_in placed file.opened.begin.slot) (epochs_of file.opened.begin.epoch.0 file.opened.begin.base (parts_told file)) (tellings_in (turned_in file).history)
+    adjoin = epochs_adjoin (place_in placed file.opened.begin.slot) (epochs_of (begun_in file).epoch (begun_in file).base (parts_told file)) (tellings_in (turned_in file).history)
         filed.0.tell adjoin.0;
   },
   are_in_rows placed files filed.1 adjoin.1 numbered.1,

@@ -16,7 +16,7 @@ use Rattle.wire_base.specs.declared.parcel.Parcel.{Parcel}
 use Rattle.slot_parts.specs.Account.{epoch_account, events_from}
 use Rattle.slot_parts.specs.Parts.{EpochParts, Part, epochs_of}
 use Rattle.accounts.specs.Accounted.{place_by, place_in}
-use Rattle.accounts.specs.Filed.{Filed, IsFiled, account_of, accounts_of, parts_told, turned_of}
+use Rattle.accounts.specs.Filed.{Filed, IsFiled, account_of, accounts_of, begun_in, parts_told, turned_of}
 use Rattle.accounts.specs.Numbers.{ArePlacedIn, IsPlacedAs, all_events, told_in_epoch, told_in_slot}
 use Rattle.accounts.specs.Once.{AreOnce}
 use Rattle.accounts.specs.Places.{ArePlaces}
@@ -64,7 +64,7 @@ module _ (placed : Parcel → Option Place) (workers : List Taken) (wires : List
   each_placed [] = tt
   each_placed (file ∷ files) =
       both IsPlaced (told_in_slot (account_of placed file)) (all_events (accounts_of placed files))
-      (epochs_are_placed file.opened.begin.slot (epochs_of file.opened.begin.epoch.0 file.opened.begin.base (parts_told file))) (each_placed files)
+      (epochs_are_placed file.opened.begin.slot (epochs_of (begun_in file).epoch (begun_in file).base (parts_told file))) (each_placed files)
 
   -- each acknowledged parcel was told, so its place is that of its event
   all_placed : (files : List Filed) → AllByRecursion IsFiled files → ((parcel : Parcel) → Contains (acknowledged_in workers) parcel → Contains (flat_map parcels_told (turned_of files)) parcel) →

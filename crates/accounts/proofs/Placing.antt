@@ -14,7 +14,7 @@ use Rattle.slot_parts.specs.Account.{epoch_account, events_from}
 use Rattle.slot_parts.specs.Parts.{EpochParts, Part, epochs_of, told_in}
 use Rattle.slot_parts.specs.Tellings.{tellings_in}
 use Rattle.accounts.specs.Accounted.{place_by, place_in}
-use Rattle.accounts.specs.Filed.{Filed, IsFiled, TellEpochs, account_of, accounts_of, parts_told, turned_in, turned_of}
+use Rattle.accounts.specs.Filed.{Filed, IsFiled, TellEpochs, account_of, accounts_of, begun_in, parts_told, turned_in, turned_of}
 use Rattle.accounts.specs.Once.{AreOnce}
 use Rattle.accounts.specs.Same.{same_parcel}
 use Rattle.accounts.specs.Turned.{parcels_by, parcels_in, parcels_of, parcels_told}
@@ -78,7 +78,7 @@ module _ (placed : Parcel → Option Place) where
   places_are [] filed = refl
   places_are (file ∷ files) filed =
       let own : flat_map places_in_epoch (account_of placed file).epochs ≡ filter_map placed (parcels_told (turned_in file)) =
-      of_epochs file.opened.begin.slot (epochs_of file.opened.begin.epoch.0 file.opened.begin.base (parts_told file)) (tellings_in (turned_in file).history) filed.0.tell
+      of_epochs file.opened.begin.slot (epochs_of (begun_in file).epoch (begun_in file).base (parts_told file)) (tellings_in (turned_in file).history) filed.0.tell
       ∙ ap (λ (s : Slot). filter_map placed (flat_map (parcels_in s) (tellings_in (turned_in file).history))) (sym filed.0.slot) in
       ap (λ (l : List Place). l ++ places_in (accounts_of placed files)) own
       ∙ ap (λ (l : List Place). filter_map placed (parcels_told (turned_in file)) ++ l) (places_are files filed.1)

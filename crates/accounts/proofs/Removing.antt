@@ -39,7 +39,7 @@ use Rattle.told_events.specs.Rules.{rules_of}
 use Rattle.told_events.specs.Told.{ToldEvent, spans_of}
 use Rattle.wire_base.specs.declared.parcel.Parcel.{Parcel}
 use Rattle.accounts.specs.Accounted.{place_in}
-use Rattle.accounts.specs.Filed.{Filed, Opening, Removal, TellEpoch, TellEpochs, account_of, first_opening, following_of, last_of, last_opening, last_told, left_by, left_in, parts_told, tail_by, tails_in, told_both, turned_in}
+use Rattle.accounts.specs.Filed.{Filed, Opening, Removal, TellEpoch, TellEpochs, account_of, begun_in, first_opening, following_of, last_of, last_opening, last_told, left_by, left_in, parts_told, tail_by, tails_in, told_both, turned_in}
 use Rattle.accounts.specs.FollowedFile.{AreReopened, IsFollowedFile, IsOpeningOf, IsReadBehind, MayReopenAt, WasRemovedBy}
 use Rattle.accounts.specs.Opened.{Opened}
 use Rattle.accounts.specs.Parted.{has_lost_key, loses_key_at}
@@ -301,10 +301,10 @@ module _ (run : Run) (placed : Parcel → Option Place) (file : Filed) (is : IsF
   place_of = place_in placed file.opened.begin.slot
 
   abbrev epoch : ℕ
-  epoch = file.opened.begin.epoch.0
+  epoch = (begun_in file).epoch
 
   abbrev base : ℕ
-  base = file.opened.begin.base
+  base = (begun_in file).base
 
   abbrev joined : History
   joined = (joined_turned (record { slot = file.opened.begin.slot; history = last.history })).history

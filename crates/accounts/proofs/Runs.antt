@@ -1,11 +1,11 @@
 -- The epochs of a file's account are those that its harvesters told, epoch by epoch: runs of parts with one number tell what the epochs of
 -- that number told, one behind the other.
 use Rattle.std.proofs.Common.{◌≡◌, ◌⊎◌, inl, inr, ℕ, ◌+◌, ◌≤◌, ◌==◌, Bool, true, false, List, [], ◌∷◌, ◌++◌, length, refl, sym, ap, subst, ◌∙◌, append-nil, append_assoc, arith, if◌then◌else◌}
-use Rattle.std.proofs.lemmas.Bool.{eq-eqb, eqb-true}
+use Rattle.std.proofs.lemmas.Bool.{eq-eqb, eqb-true, ne_eqb}
 use Rattle.event_tree.specs.declared.group_rule.GroupRule.{GroupRule}
 use Rattle.file_looks.specs.Segment.{Segment}
 use Rattle.harvester.specs.History.{Telling}
-use Rattle.slot_parts.specs.Parts.{Part, Runs, epochs_of, runs_from, told_in, with_epoch, with_part}
+use Rattle.slot_parts.specs.Parts.{EpochParts, Part, Runs, epochs_of, runs_from, told_in, with_epoch, with_part}
 use Rattle.slot_parts.specs.Tellings.{AreNumberedFrom, parts_of, untold_parts}
 use Rattle.told_events.specs.Told.{ToldEvent}
 use Rattle.accounts.specs.Filed.{TellEpochs, told_on}
@@ -136,3 +136,28 @@ epochs_tell epoch base (part ∷ parts) first tellings number place tell start =
     (sym (eq-eqb part.epoch epoch (tell.0 ∙ number)))
     (with_more epoch first.start [] part first.told (runs_from epoch parts) (merged first tellings) tell.1
     (runs_tell first parts tellings epoch (sym number) tell.2 start)))
+
+-- ---- where the first tail tells the epoch behind the first one
+
+abbrev pub StartsWith : ℕ → List Telling → Type 0
+StartsWith epoch [] = ⊥
+StartsWith epoch (first ∷ later) = first.epoch ≡ epoch
+
+abbrev epochs_in : ℕ → ℕ → Runs → List EpochParts
+epochs_in number start runs = record { epoch = number; start = start; parts = runs.present } ∷ runs.later
+
+-- nothing was told of the first
+pub risen_tell : (epoch base next : ℕ) (parts : List Part) (tellings all : List Telling) → next ≡ epoch + 1 → StartsWith next tellings → PartsTell parts tellings →
+    TellEpochs (epochs_of next 0 parts) all → TellEpochs (epochs_of epoch base parts) (record { epoch = epoch; start = base; bytes = []; licences = []; told = [] } ∷ all)
+risen_tell epoch base next parts [] all rises starts tell has = absurd starts
+risen_tell epoch base next [] (first ∷ later) all rises starts tell has = absurd tell
+risen_tell epoch base next (part ∷ parts) (first ∷ later) all rises starts tell has =
+    let number : part.epoch ≡ next = tell.0 ∙ starts in
+    let none : Telling = record { epoch = epoch; start = base; bytes = []; licences = []; told = [] } in
+    let own : TellEpochs (epochs_of part.epoch 0 (part ∷ parts)) all = subst (λ (n : ℕ). TellEpochs (epochs_of n 0 (part ∷ parts)) all) (sym number) has in
+    subst (λ (b : Bool). TellEpochs (epochs_in epoch base (if b then with_part part (runs_from epoch parts) else with_epoch part (runs_from part.epoch parts))) (none ∷ all))
+    (sym (ne_eqb part.epoch epoch (λ same. omega (arith, same, number, rises)))) (
+      record { epoch = refl; start = refl; told = refl },
+      subst (λ (b : Bool). TellEpochs (epochs_in part.epoch 0 (if b then with_part part (runs_from part.epoch parts) else with_epoch part (runs_from part.epoch parts))) all)
+          (eq-eqb part.epoch part.epoch refl) own,
+    )

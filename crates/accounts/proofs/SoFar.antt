@@ -1,12 +1,14 @@
 -- What is known of a run's files as it ends, by how they were opened and what was told of them: joined, they have their notes and fit the
 -- books.
-use Rattle.std.proofs.Common.{◌≡◌, inl, inr, ℕ, ◌≤◌, List, [], ◌∷◌, Contains, map, sym, ap, subst, ◌∙◌}
+use Rattle.std.proofs.Common.{◌≡◌, inl, inr, ℕ, ◌≤◌, List, [], ◌∷◌, Contains, map, Option, None, sym, ap, subst, ◌∙◌}
 use Rattle.std.specs.List.{AllByRecursion, flat_map}
+use Rattle.kept_rows.specs.Followed.{Start}
 use Rattle.kept_rows.specs.Run.{Run}
 use Rattle.outside.specs.declared.history.Look.{Look}
 use Rattle.wire_base.specs.declared.note.Note.{Note}
 use Rattle.wire_base.specs.declared.note.Note.TheVariants.{Begin, Seen}
-use Rattle.accounts.specs.Filed.{Filed, IsNoted, turned_of}
+use Rattle.wire_base.specs.declared.numbers.Moment.{Moment}
+use Rattle.accounts.specs.Filed.{Filed, IsNoted, begun_by, turned_of}
 use Rattle.accounts.specs.Hidden.{Hidden}
 use Rattle.accounts.specs.Opened.{Opened}
 use Rattle.accounts.specs.Taken.{FitBooks, Taken}
@@ -18,12 +20,17 @@ use Rattle.accounts.proofs.Lists.{each_then}
 use Rattle.accounts.proofs.Often.{often_back, often_then}
 use Rattle.accounts.proofs.Orderly.{member_is}
 
+-- the Begin of a file that was opened so, by where it shrank from
+abbrev begin_with : Opened → Option Start → List ℕ → Moment → Note
+begin_with opened from path moment = Begin opened.begin.slot opened.begin.key path (record { 0 = (begun_by opened from).epoch }) (begun_by opened from).base moment
+
 module _ (looks : Opened → List Look) (changed : Opened → ℕ) (told : List Turned) where
   file_of : (files : List Filed) (opened : Opened) → AllByRecursion (IsJoined looks changed told) files → Contains (map (λ (file : Filed). file.opened) files) opened →
-      (file : Filed) × Contains files file × (file.opened ≡ opened) × (changed opened ≡ file.changed)
+      (file : Filed) × Contains files file × (file.opened ≡ opened) × (changed opened ≡ file.changed) × (file.shrank_from ≡ None)
   file_of files opened each there =
       let of = of_map (λ (file : Filed). file.opened) files opened there in
-      (of.item, of.among, of.is, ap changed (sym of.is) ∙ sym (member_is (IsJoined looks changed told) files of.item each of.among).changed_is)
+      let its = member_is (IsJoined looks changed told) files of.item each of.among in
+      (of.item, of.among, of.is, ap changed (sym of.is) ∙ sym its.changed_is, its.as_begun)
 
   begin_of_file : (files : List Filed) → AllByRecursion (IsJoined looks changed told) files → (note : Note) →
       IsBeginAsOne changed (map (λ (file : Filed). file.opened) files) note → IsBeginOfOne files note
@@ -35,7 +42,8 @@ module _ (looks : Opened → List Look) (changed : Opened → ℕ) (told : List 
         begins = record {
           path = is.begins.path;
           changed = is.begins.moment;
-          is = subst (λ (o : Opened). note ≡ Begin o.begin.slot o.begin.key is.begins.path o.begin.epoch o.begin.base is.begins.moment) (sym of.2) is.begins.is;
+          is = subst (λ (from : Option Start). note ≡ begin_with of.0.opened from is.begins.path is.begins.moment) (sym of.4)
+              (subst (λ (o : Opened). note ≡ begin_with o None is.begins.path is.begins.moment) (sym of.2) is.begins.is);
           within = subst (λ (n : ℕ). is.begins.moment.0 ≤ n) of.3 is.begins.within;
         };
       }
@@ -58,14 +66,22 @@ module _ (looks : Opened → List Look) (changed : Opened → ℕ) (told : List 
     told_of_files run hiddens note (inr (inl seen)) = inr (inl (moment_of_file joined.files joined.each note (subst (λ (l : List Opened). IsMomentAs changed l note) (sym joined.opened_are) seen)))
     told_of_files run hiddens note (inr (inr of)) = inr (inr (inl of))
 
-    noted_files : (first : List Note) (files : List Filed) → AllByRecursion (IsNotedAs first) (map (λ (file : Filed). file.opened) files) → AllByRecursion (IsNoted first) files
-    noted_files first [] each = tt
-    noted_files first (file ∷ files) each = (record { path = each.0.path; changed = each.0.moment; there = each.0.there }, noted_files first files each.1)
+    noted_files : (first : List Note) (files : List Filed) → AllByRecursion (IsJoined looks changed told) files → AllByRecursion (IsNotedAs first) (map (λ (file : Filed). file.opened) files) →
+        AllByRecursion (IsNoted first) files
+    noted_files first [] joined_so each = tt
+    noted_files first (file ∷ files) joined_so each = (
+      record {
+        path = each.0.path;
+        changed = each.0.moment;
+        there = subst (λ (from : Option Start). Contains first (begin_with file.opened from each.0.path each.0.moment)) (sym joined_so.0.as_begun) each.0.there;
+      },
+      noted_files first files joined_so.1 each.1,
+    )
 
     pub joined_told_notes : (run : Run) (hiddens : List Hidden) (first : List Note) → AreToldNotesAs changed opened hiddens first → AreToldNotes run joined.files hiddens first
     joined_told_notes run hiddens first are = record {
       each = each_then (MayTellAs changed opened hiddens) (MayTell run joined.files hiddens) first (told_of_files run hiddens) are.each;
-      begun = noted_files first joined.files (subst (AllByRecursion (IsNotedAs first)) (sym joined.opened_are) are.begun);
+      begun = noted_files first joined.files joined.each (subst (AllByRecursion (IsNotedAs first)) (sym joined.opened_are) are.begun);
       hidden_begun = are.hidden_begun;
     }
 

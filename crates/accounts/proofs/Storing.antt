@@ -26,7 +26,7 @@ use Rattle.slot_parts.specs.Account.{epoch_account, events_from}
 use Rattle.slot_parts.specs.Parts.{EpochParts, Part, epochs_of, told_in}
 use Rattle.slot_parts.specs.Tellings.{tellings_in}
 use Rattle.accounts.specs.Accounted.{place_by, place_in}
-use Rattle.accounts.specs.Filed.{Filed, IsFiled, TellEpochs, account_of, accounts_of, parts_told, turned_in, turned_of}
+use Rattle.accounts.specs.Filed.{Filed, IsFiled, TellEpochs, account_of, accounts_of, begun_in, parts_told, turned_in, turned_of}
 use Rattle.accounts.specs.Hidden.{Hidden, with_hidden}
 use Rattle.accounts.specs.Places.{ArePlaces}
 use Rattle.accounts.specs.Same.{same_note}
@@ -105,7 +105,7 @@ module _ (placed : Parcel → Option Place) (workers : List Taken) (wires : List
   file_is_noted : (file : Filed) → IsFiled file → ((note : Note) → Contains (notes_told (turned_in file)) note → Contains notes note) →
       AllByRecursion (AreAllSettledIn notes wires (account_of placed file)) (account_of placed file).epochs
   file_is_noted file filed own =
-      epochs_are_noted file.opened.begin.slot (epochs_of file.opened.begin.epoch.0 file.opened.begin.base (parts_told file)) (tellings_in (turned_in file).history) filed.tell
+      epochs_are_noted file.opened.begin.slot (epochs_of (begun_in file).epoch (begun_in file).base (parts_told file)) (tellings_in (turned_in file).history) filed.tell
       (λ telling among note there. own note (settlement_there file.turned.slot (tellings_in (turned_in file).history) telling note among
       (subst (λ (s : Slot). Contains (settlements_in s telling) note) (sym filed.slot) there)))
 

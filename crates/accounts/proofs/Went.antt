@@ -17,7 +17,7 @@ use Rattle.wire_base.specs.declared.note.Note.{Note}
 use Rattle.wire_base.specs.declared.parcel.Parcel.{Parcel}
 use Rattle.wire_base.specs.declared.row.Row.{Row}
 use Rattle.accounts.specs.AccountedFor.{HasItsRow}
-use Rattle.accounts.specs.Filed.{Filed, Removal, account_of, accounts_of, left_by, left_in, slot_in, turned_of}
+use Rattle.accounts.specs.Filed.{Filed, Removal, account_of, accounts_of, begun_in, left_by, left_in, slot_in, turned_of}
 use Rattle.accounts.specs.FollowedFile.{IsFollowedFile, WasRemovedBy, key_in}
 use Rattle.accounts.specs.Hidden.{Hidden, hidden_account, with_hidden}
 use Rattle.accounts.specs.RunTold.{LeftWithoutRow, RunNotes, RunTold, all_slots}
@@ -91,7 +91,7 @@ module _ (run : Run) (files : List Filed) (hiddens : List Hidden) (workers : Lis
       is_gone none =
           let apart = slots_apart 0 files told.followed.slots in
           let started = is_started run files hiddens (acknowledged_in workers) notes.all apart told.beside (are_notes run files hiddens workers notes told) file among in
-          let start : Start = record { key = key_in file; path = started.path; epoch = file.opened.begin.epoch.0; base = file.opened.begin.base } in
+          let start : Start = record { key = key_in file; path = started.path; epoch = (begun_in file).epoch; base = (begun_in file).base } in
           let gone = forgotten closes_by all run.trace.wires notes.all in_rows backed (slot_in file) start started.is none in
           let of = was_removed gone.note gone.there gone.of_slot gone.is_forget in
           let by = subst (λ (o : Option Removal). IfSome o (WasRemovedBy run file)) of.1 followed.removed in

@@ -55,11 +55,11 @@ history = record {
   forgets = false;
 }
 
-abbrev placed : Parcel → Option Place
+abbrev pub placed : Parcel → Option Place
 placed parcel = Some (record { wire = 0; connection = 0; number = if parcel.span.start == 0 then 0 else 1 })
 
 abbrev file : Filed
-file = record { opened = opened; turned = record { slot = record { 0 = 0 }; history = history }; looks = worked.looks; changed = 0; known_from = 0; later = []; removed = None }
+file = record { opened = opened; turned = record { slot = record { 0 = 0 }; history = history }; looks = worked.looks; changed = 0; known_from = 0; later = []; removed = None; shrank_from = None }
 
 pub two_plain_lines_are_accounted : account_of placed file ≡ worked.slot_account
 two_plain_lines_are_accounted = refl

@@ -280,6 +280,7 @@ is_done = record {
     record {
       alone = refl;
       stays = refl;
+      as_begun = refl;
       read_through = inl (record { ended = refl; all_told = refl });
       moment = record {
         shown = worked.shown;

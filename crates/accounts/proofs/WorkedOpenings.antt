@@ -157,7 +157,7 @@ module _ (own : Twice) where
   next_tail = tail_with next_opened own.looks
 
   abbrev pub filed : Filed
-  filed = record { opened = first_opened; turned = first_turned; looks = first_looks; changed = 0; known_from = 0; later = next_opening ∷ []; removed = None }
+  filed = record { opened = first_opened; turned = first_turned; looks = first_looks; changed = 0; known_from = 0; later = next_opening ∷ []; removed = None; shrank_from = None }
 
   abbrev shown_by : List ℕ → ℕ → ℕ → Shown
   shown_by path in_life size =

@@ -21,7 +21,7 @@ use Rattle.told_events.proofs.Worked.{a_log}
 use Rattle.wire_base.specs.declared.note.Cause.TheVariants.{Acked}
 use Rattle.wire_base.specs.declared.note.Note.{Note}
 use Rattle.wire_base.specs.declared.note.Note.TheVariants.{Begin, Forget, Rename, Seen, Settle}
-use Rattle.accounts.specs.Filed.{Filed, Removal, account_of, following_of, last_opening, last_told}
+use Rattle.accounts.specs.Filed.{Filed, Removal, account_of, following_of, its_begin, last_opening, last_told}
 use Rattle.accounts.specs.FollowedFile.{IsFollowedFile, IsReadBehind, WasRemovedBy}
 use Rattle.accounts.specs.Hidden.{WasShownBy}
 use Rattle.accounts.specs.RunTold.{LeftWithoutRow, RunNotes, RunTold}
@@ -188,7 +188,7 @@ end_in (Forget slot epoch end) = end
 end_in other = 0
 
 forget_at_a_place_not_told : MayTell run (gone_file ∷ []) [] early → ⊥
-forget_at_a_place_not_told (inl begin) = absurd (let q : early ≡ Begin begin.file.opened.begin.slot begin.file.opened.begin.key begin.begins.path begin.file.opened.begin.epoch begin.file.opened.begin.base begin.begins.changed = begin.begins.is in cc)
+forget_at_a_place_not_told (inl begin) = absurd (let q : early ≡ its_begin begin.file begin.begins.path begin.begins.changed = begin.begins.is in cc)
 forget_at_a_place_not_told (inr (inl seen)) = absurd (let q : early ≡ Seen seen.file.opened.begin.slot seen.changed = seen.is in cc)
 forget_at_a_place_not_told (inr (inr (inl hidden))) = none_there hidden.hidden hidden.of_hiddens
 forget_at_a_place_not_told (inr (inr (inr of))) = by_kind of.file of.of_files of.is

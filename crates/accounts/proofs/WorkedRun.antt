@@ -87,6 +87,7 @@ module _ (globs : List (List ℕ)) (identity : IdentityRule) (numbers : Option (
     known_from = 0;
     later = [];
     removed = None;
+    shrank_from = None;
   }
 
   pub is_telling : IsTelling (rules_in file_by.turned.history) telling
@@ -318,6 +319,7 @@ is_done = record {
     record {
       alone = refl;
       stays = refl;
+      as_begun = refl;
       read_through = inl (record { ended = refl; all_told = refl });
       moment = record {
         shown = worked.shown;

@@ -54,7 +54,7 @@ asking = record { input = 0; path = a_log; opening = None }
 abbrev scan_at : ℕ → List Asking → Scan
 scan_at listing askings = record { moment = 0; listings = listing ∷ []; askings = askings }
 
-abbrev empty : Scan
+abbrev pub empty : Scan
 empty = scan_at 0 []
 
 abbrev pub partial : Scan

@@ -17,6 +17,7 @@ known_anew number = record gone_file {
   opened = record gone_file.opened { begin = record gone_file.opened.begin { slot = record { 0 = 1 } } };
   known_from = number;
   removed = None;
+  shrank_from = None;
 }
 
 abbrev first : Following

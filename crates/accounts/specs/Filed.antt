@@ -3,6 +3,7 @@
 use Rattle.std.specs.Prelude.{◌≡◌, ℕ, ◌-◌, ◌==◌, List, [], ◌∷◌, ◌++◌, Contains, map, take, Option, None, Some, if◌then◌else◌}
 use Rattle.harvester.specs.History.{History, Telling, told_to}
 use Rattle.kept_rows.specs.Account.{Following, Place, SlotAccount}
+use Rattle.kept_rows.specs.Followed.{Start}
 use Rattle.outside.specs.declared.history.Look.{Look}
 use Rattle.slot_parts.specs.Account.{slot_account}
 use Rattle.slot_parts.specs.Parts.{EpochParts, Part, epochs_of, told_in}
@@ -30,7 +31,8 @@ pub record Removal : Type 0 where
   pub left_after : Option ℕ
 
 -- what its first tail told, the greatest moment of change that was noted of it, the number of the scan from which on its key is known, the
--- openings behind its first one, in order, and how it was removed, if it was and the run told that its row goes
+-- openings behind its first one, in order, how it was removed, if it was and the run told that its row goes; and with what its slot begins, if it was
+-- listed with less than that before its first tail was opened, which then read the next epoch
 pub record Filed : Type 0 where
   pub opened : Opened
   pub turned : Turned
@@ -39,9 +41,22 @@ pub record Filed : Type 0 where
   pub known_from : ℕ
   pub later : List Opening
   pub removed : Option Removal
+  pub shrank_from : Option Start
 
 abbrev pub slot_in : Filed → ℕ
 slot_in file = file.opened.begin.slot.0
+
+-- with what its slot begins: with the epoch and the place of its first tail, if it did not shrink before
+abbrev pub begun_by : Opened → Option Start → Start
+begun_by opened None = record { epoch = opened.begin.epoch.0; base = opened.begin.base }
+begun_by opened (Some start) = start
+
+abbrev pub begun_in : Filed → Start
+begun_in file = begun_by file.opened file.shrank_from
+
+-- the note that tells so, with this path and this moment
+abbrev pub its_begin : Filed → List ℕ → Moment → Note
+its_begin file path changed = Begin file.opened.begin.slot file.opened.begin.key path (record { 0 = (begun_in file).epoch }) (begun_in file).base changed
 
 abbrev pub first_opening : Filed → Opening
 first_opening file = record { opened = file.opened; history = file.turned.history; looks = file.looks }
@@ -90,9 +105,17 @@ abbrev pub told_over : History → List Opening → History
 told_over so_far [] = so_far
 told_over so_far (next ∷ later) = told_over (told_both so_far next.history) later
 
--- an epoch that rose as the file was opened again is announced as any other
+-- if it shrank before its first tail was opened, nothing was told of the epoch with which its slot begins
+abbrev pub untold_by : Option Start → List Telling
+untold_by None = []
+untold_by (Some start) = record { epoch = start.epoch; start = start.base; bytes = []; licences = []; told = [] } ∷ []
+
+abbrev pub told_behind : List Telling → History → History
+told_behind earlier history = record history { past = earlier ++ history.past }
+
+-- an epoch that rose as the file was opened is announced as any other
 abbrev pub turned_in : Filed → Turned
-turned_in file = record { slot = file.turned.slot; history = told_over file.turned.history file.later }
+turned_in file = record { slot = file.turned.slot; history = told_behind (untold_by file.shrank_from) (told_over file.turned.history file.later) }
 
 -- its last epoch
 abbrev pub last_told : Filed → Telling
@@ -114,8 +137,8 @@ following_of file = record {
   slot = file.opened.begin.slot.0;
   input = file.opened.begin.input;
   key = file.opened.begin.key;
-  epoch = file.opened.begin.epoch.0;
-  base = file.opened.begin.base;
+  epoch = (begun_in file).epoch;
+  base = (begun_in file).base;
   known_from = file.known_from;
   gone_after = left_in file;
   tails = tails_of (tails_in file);
@@ -152,11 +175,11 @@ TellEpochs (one ∷ epochs) (telling ∷ tellings) = TellEpoch one telling × Te
 -- the epochs of its account are those that were told of it
 pub record IsFiled (file : Filed) : Type 0 where
   pub slot : file.turned.slot ≡ file.opened.begin.slot
-  pub epochs : AreEpochsFrom file.opened.begin.epoch.0 file.opened.begin.base (tellings_in (turned_in file).history)
-  pub tell : TellEpochs (epochs_of file.opened.begin.epoch.0 file.opened.begin.base (parts_told file)) (tellings_in (turned_in file).history)
+  pub epochs : AreEpochsFrom (begun_in file).epoch (begun_in file).base (tellings_in (turned_in file).history)
+  pub tell : TellEpochs (epochs_of (begun_in file).epoch (begun_in file).base (parts_told file)) (tellings_in (turned_in file).history)
 
 -- its Begin is among the notes
 pub record IsNoted (notes : List Note) (file : Filed) : Type 0 where
   pub path : List ℕ
   pub changed : Moment
-  pub there : Contains notes (Begin file.opened.begin.slot file.opened.begin.key path file.opened.begin.epoch file.opened.begin.base changed)
+  pub there : Contains notes (its_begin file path changed)

@@ -1,9 +1,10 @@
 -- The files that a run follows, each by tails that were opened one by one (this project's profile): a scan listed them, the folder
 -- opened them by their paths and found their keys, and what their tails told stands in the folder's list. The first tail begins where the
--- slot does. A tail is opened again only after the one before it was closed; it goes on from the end of the last event that was told, in the
--- same epoch where the file was listed with at least that size, else from the first byte in the next one. By the last scan before an opening that showed
--- the key it is known with which size and by which path the file was listed.
-use Rattle.std.specs.Prelude.{◌≡◌, ◌≢◌, ◌⊎◌, ℕ, zero, suc, ◌+◌, ◌<◌, ◌≤◌, max, length, List, [], ◌∷◌, ◌++◌, Contains, flat_map, map, slice_get, Option, Some, IfSome, true}
+-- slot does, or from the first byte in the next epoch, if its file was listed with less than that by then. A tail is opened again only
+-- after the one before it was closed; it goes on from the end of the last event that was told, in the same epoch where the file was listed
+-- with at least that size, else from the first byte in the next one. By the last scan before an opening that showed the key it is known
+-- with which size and by which path the file was listed.
+use Rattle.std.specs.Prelude.{◌≡◌, ◌≢◌, ◌⊎◌, ℕ, zero, suc, ◌+◌, ◌<◌, ◌≤◌, max, length, List, [], ◌∷◌, ◌++◌, Contains, flat_map, map, slice_get, Option, None, Some, IfSome, true}
 use Rattle.std.specs.List.{AllByRecursion}
 use Rattle.file_identity.specs.AskedAgain.{GivesKey}
 use Rattle.file_looks.specs.EndLook.{HasEndLook}
@@ -81,10 +82,22 @@ pub record BeganEarlier (run : Run) (file : Filed) (shown : WasShownLast run fil
   pub begun : IsBegun run (following_of file)
   pub within : file.opened.begin.base ≤ shown.shown.entry.size
 
+-- its key was known before, and its slot began so; but this scan listed it with less than the place at which it begins, so its first tail reads the next
+-- epoch, from the first byte
+pub record ShrankBefore (run : Run) (file : Filed) (shown : WasShownLast run file.opened) (start : Start) : Type 0 where
+  pub earlier : file.known_from < length shown.front
+  pub begun : IsBegun run (following_of file)
+  pub below : shown.shown.entry.size < start.base
+  pub starts : start_in file.opened ≡ record { epoch = start.epoch + 1; base = 0 }
+
+abbrev pub BeginsAs : (run : Run) (file : Filed) → WasShownLast run file.opened → Option Start → Type 0
+BeginsAs run file shown None = BeginsThere run file shown ⊎ BeganEarlier run file shown
+BeginsAs run file shown (Some start) = ShrankBefore run file shown start
+
 -- as it was opened first
 pub record IsListedAs (run : Run) (file : Filed) : Type 0 where
   pub last : WasShownLast run file.opened
-  pub begins : BeginsThere run file last ⊎ BeganEarlier run file last
+  pub begins : BeginsAs run file last file.shrank_from
 
 -- ---- the moment of its last change
 

@@ -56,11 +56,12 @@ pub record HasItsMoment (run : Run) (scan : Scan) (notes : List Note) (file : Fi
   pub slot_is : slot_of note ≡ slot_in file
   pub carries : moment_of note ≡ Some file.changed
 
--- it was opened once and not removed, and told to its end or found with another key; where its harvester rests, this is known of it, and stays so once its
+-- it did not shrink before it was opened, was opened once and not removed, and told to its end or found with another key; where its harvester rests, this is known of it, and stays so once its
 -- tail is closed
 pub record IsToldWhole (run : Run) (scan : Scan) (notes : List Note) (file : Filed) : Type 0 where
   pub alone : file.later ≡ []
   pub stays : file.removed ≡ None
+  pub as_begun : file.shrank_from ≡ None
   pub read_through : IsReadThrough file.turned.history
   pub moment : HasItsMoment run scan notes file
 

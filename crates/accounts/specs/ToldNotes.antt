@@ -10,7 +10,7 @@ use Rattle.wire_base.specs.declared.note.Note.{Note}
 use Rattle.wire_base.specs.declared.note.Note.TheVariants.{Begin, Forget, Rename, Seen}
 use Rattle.wire_base.specs.declared.numbers.Moment.{Moment}
 use Rattle.wire_base.specs.declared.parcel.Parcel.{Parcel}
-use Rattle.accounts.specs.Filed.{Filed, IsNoted, Removal, last_told, turned_of}
+use Rattle.accounts.specs.Filed.{Filed, IsNoted, Removal, its_begin, last_told, turned_of}
 use Rattle.accounts.specs.Ground.{HasGround}
 use Rattle.accounts.specs.Hidden.{Hidden, hidden_begin, hidden_forget}
 use Rattle.accounts.specs.Opened.{Opened}
@@ -21,7 +21,7 @@ use Rattle.accounts.specs.Watched.{WasRenamedSince}
 pub record IsBeginOf (file : Filed) (note : Note) : Type 0 where
   pub path : List ℕ
   pub changed : Moment
-  pub is : note ≡ Begin file.opened.begin.slot file.opened.begin.key path file.opened.begin.epoch file.opened.begin.base changed
+  pub is : note ≡ its_begin file path changed
   pub within : changed.0 ≤ file.changed
 
 -- that of one of the files

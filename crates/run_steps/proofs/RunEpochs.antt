@@ -1,6 +1,6 @@
 -- The epochs of the account of a run: each event was told in one that there is, and a file that a tail followed needed no other, where each
 -- fall of its length was answered.
-use Rattle.std.proofs.Common.{◌≡◌, ◌⊎◌, inl, inr, ℕ, suc, ◌+◌, ◌==◌, ◌≤◌, All, Bool, true, false, List, [], ◌∷◌, ◌++◌, Contains, append-nil, length, map, Option, Some, IsSome, if◌then◌else◌, refl, sym, ap, subst, ◌∙◌, arith}
+use Rattle.std.proofs.Common.{◌≡◌, ◌⊎◌, inl, inr, ℕ, suc, ◌+◌, ◌==◌, ◌≤◌, All, Bool, true, false, List, [], ◌∷◌, ◌++◌, Contains, append-nil, length, map, Option, None, Some, IsSome, if◌then◌else◌, refl, sym, ap, subst, ◌∙◌, arith}
 use Rattle.std.proofs.lemmas.List.{length_push}
 use Rattle.std.specs.List.{AllByRecursion}
 use Rattle.accounts.proofs.Grounded.{of_map}
@@ -9,7 +9,7 @@ use Rattle.accounts.proofs.Orderly.{member_is}
 use Rattle.accounts.proofs.Segmented.{IsReadExactly, as_many}
 use Rattle.accounts.proofs.JoinedFile.{joined_opened, joined_turned}
 use Rattle.accounts.specs.Accounted.{place_in}
-use Rattle.accounts.specs.Filed.{Filed, Opening, TellEpoch, TellEpochs, account_of, first_opening, parts_told, tail_by, told_over}
+use Rattle.accounts.specs.Filed.{Filed, Opening, TellEpoch, TellEpochs, account_of, begun_in, first_opening, parts_told, tail_by, told_behind, told_over, untold_by}
 use Rattle.accounts.specs.FollowedFile.{IsFollowedFile}
 use Rattle.accounts.specs.Parted.{kept_looks}
 use Rattle.accounts.specs.Turned.{Turned}
@@ -17,6 +17,7 @@ use Rattle.event_tree.specs.declared.group_rule.GroupRule.{GroupRule}
 use Rattle.file_looks.specs.Segment.{Segment, segments_of}
 use Rattle.harvester.specs.History.{History, Telling}
 use Rattle.kept_rows.specs.Account.{EpochAccount, Place}
+use Rattle.kept_rows.specs.Followed.{Start}
 use Rattle.kept_rows.specs.Run.{Run}
 use Rattle.kept_rows.specs.Trace.{WireTold}
 use Rattle.outside.specs.Folders.{FolderHistory}
@@ -106,7 +107,8 @@ epochs_there placed slot epoch base parts first each =
 
 -- ---- a file
 
-module _ (run : Run) (placed : Parcel → Option Place) (file : Filed) (followed : IsFollowedFile run file) (alone : file.later ≡ []) where
+module _ (run : Run) (placed : Parcel → Option Place) (file : Filed) (followed : IsFollowedFile run file) (alone : file.later ≡ [])
+    (as_begun : file.shrank_from ≡ None) where
   abbrev epoch : ℕ
   epoch = file.opened.begin.epoch.0
 
@@ -118,8 +120,12 @@ module _ (run : Run) (placed : Parcel → Option Place) (file : Filed) (followed
 
   pub told_in_epochs : AreToldInEpochs (tellings_in history) → IsToldInEpochs (account_of placed file)
   told_in_epochs each =
-      each_told placed file.opened.begin.slot (epochs_of epoch base (parts_told file)) (tellings_in history)
-      (subst (λ (later : List Opening). TellEpochs (epochs_of epoch base (parts_told file)) (tellings_in (told_over history later))) alone (is_filed run file followed).tell) each
+      each_told placed file.opened.begin.slot its_epochs (tellings_in history)
+      (subst (λ (from : Option Start). TellEpochs its_epochs (tellings_in (told_behind (untold_by from) history))) as_begun
+      (subst (λ (later : List Opening). TellEpochs its_epochs (tellings_in (told_behind (untold_by file.shrank_from) (told_over history later)))) alone (is_filed run file followed).tell)) each
+    where
+      its_epochs : List EpochParts
+      its_epochs = epochs_of (begun_in file).epoch (begun_in file).base (parts_told file)
 
   module _ (answered : IsAnswered history) where
     abbrev turned : Turned
@@ -155,20 +161,22 @@ module _ (run : Run) (placed : Parcel → Option Place) (file : Filed) (followed
         (let long = as_long in let own = length_push history.past history.present in omega (arith, long, own))
         (each_there epoch base history.past history.present followed.told.history.epochs answered.epoch)
 
-    abbrev Have : List Opening → Type 0
-    Have later =
-        AllByRecursion (HasItsEpochs (account_of placed (record file { later = later }))) (account_of placed (record file { later = later })).following.tails
+    abbrev Have : List Opening → Option Start → Type 0
+    Have later from =
+        AllByRecursion (HasItsEpochs (account_of placed (record file { later = later; shrank_from = from })))
+        (account_of placed (record file { later = later; shrank_from = from })).following.tails
 
-    pub has_its_epochs : Have file.later
+    pub has_its_epochs : Have file.later file.shrank_from
     has_its_epochs =
-        subst Have (sym alone) (
+        subst (λ (later : List Opening). Have later file.shrank_from) (sym alone)
+        (subst (Have []) (sym as_begun) (
           record {
-            each = epochs_there placed file.opened.begin.slot epoch base (parts_told (record file { later = [] })) first
+            each = epochs_there placed file.opened.begin.slot epoch base (parts_told (record file { later = []; shrank_from = None })) first
                 (subst (AllByRecursion IsPartThere) (sym (append-nil (parts_by file.opened.rule.multiline (tail_by (first_opening file))))) parts);
             falls = falls;
           },
           tt,
-        )
+        ))
 
 -- ---- the files of a run
 
@@ -184,6 +192,9 @@ module _ {T W L D : Type 0} (words : Words T W L D) (start : Began D) (state : R
   alone : file.later ≡ []
   alone = (is_joined words start state so_far stands released folder has shown wires file among).alone
 
+  as_begun : file.shrank_from ≡ None
+  as_begun = (is_joined words start state so_far stands released folder has shown wires file among).as_begun
+
   left_there : Contains (map (λ (l : Left). l.turned) so_far.left) file.turned
   left_there = subst (λ (l : List Turned). Contains l file.turned) (files_are words start state so_far stands released folder has shown wires)
       (is_joined words start state so_far stands released folder has shown wires file among).among
@@ -192,13 +203,13 @@ module _ {T W L D : Type 0} (words : Words T W L D) (start : Began D) (state : R
   file_told_in_epochs =
       let of = of_map (λ (l : Left). l.turned) so_far.left file.turned left_there in
       let so = member_is (IsLeftSo (watch_of start so_far.scans) so_far.opened so_far.moments) so_far.left of.item stands.files.left of.among in
-      told_in_epochs the_run placed file followed alone (subst (λ (t : Turned). AreToldInEpochs (tellings_in t.history)) of.is so.in_epochs)
+      told_in_epochs the_run placed file followed alone as_begun (subst (λ (t : Turned). AreToldInEpochs (tellings_in t.history)) of.is so.in_epochs)
 
   pub file_has_its_epochs : MayTell state.phase → AllByRecursion (HasItsEpochs (account_of placed file)) (account_of placed file).following.tails
   file_has_its_epochs may =
       let of = of_map (λ (l : Left). l.turned) so_far.left file.turned left_there in
       let each = (stands.files.answered may tells).in_left in
-      has_its_epochs the_run placed file followed alone
+      has_its_epochs the_run placed file followed alone as_begun
       (subst (λ (t : Turned). IsAnswered t.history) of.is (member_is (λ (l : Left). IsAnswered l.turned.history) so_far.left of.item each of.among))
     where
       tells : IsSome start.shown

@@ -13,7 +13,7 @@ use Rattle.accounts.proofs.Onward.{told_by_other}
 use Rattle.accounts.proofs.Orderly.{member_is, same_item}
 use Rattle.accounts.proofs.Removing.{none_left, not_removed}
 use Rattle.accounts.specs.Filed.{Filed, Opening, first_opening, following_of}
-use Rattle.accounts.specs.FollowedFile.{AreFollowedFiles, AreInSlots, AreReopened, EachOpeningIsOne, IsFollowedFile, IsListedAs, WasShownLast, begins_by, key_in, moment_by, openings_in, start_in, tail_of}
+use Rattle.accounts.specs.FollowedFile.{AreFollowedFiles, AreInSlots, AreReopened, BeginsAs, EachOpeningIsOne, IsFollowedFile, IsListedAs, WasShownLast, begins_by, key_in, moment_by, openings_in, start_in, tail_of}
 use Rattle.accounts.specs.Opened.{Opened}
 use Rattle.accounts.specs.ToldFile.{IsToldFile}
 use Rattle.accounts.specs.Turned.{Turned}
@@ -348,7 +348,8 @@ module _ {T W L D : Type 0} (words : Words T W L D) (start : Began D) (state : R
     abbrev is_listed : IsListedAs run file
     is_listed = record {
       last = shown_last;
-      begins = inl (record { number_is = is_joined.known_is; starts = starts ∙ ap (λ (n : ℕ). begins_by n (find key start.opening) its_entry.entry.size) (sym is_joined.known_is) });
+      begins = subst (BeginsAs run file shown_last) (sym is_joined.as_begun)
+          (inl (record { number_is = is_joined.known_is; starts = starts ∙ ap (λ (n : ℕ). begins_by n (find key start.opening) its_entry.entry.size) (sym is_joined.known_is) }));
     }
 
     -- the moment of its listing

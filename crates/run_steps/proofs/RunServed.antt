@@ -368,6 +368,7 @@ module _ {T W L D : Type 0} (words : Words T W L D) (start : Began D) (state : R
     told_whole = record {
       alone = (is_joined words start state so_far stands released folder has shown wires file among).alone;
       stays = (is_joined words start state so_far stands released folder has shown wires file among).stays;
+      as_begun = (is_joined words start state so_far stands released folder has shown wires file among).as_begun;
       read_through = member_is (λ (turned : Turned). IsReadThrough turned.history) (files_in so_far) file.turned finished
           (is_joined words start state so_far stands released folder has shown wires file among).among;
       moment = record {

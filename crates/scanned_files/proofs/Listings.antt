@@ -1,6 +1,6 @@
 -- A file that a scan listed and that was opened after it, before the next one: that scan is the last before the opening that showed its key; later ones
 -- tell that it was removed or has another path; its start and the moment of its last change are by the entries.
-use Rattle.std.proofs.Common.{◌≡◌, ◌≢◌, ◌⊎◌, inl, inr, ⊎_elim, ℕ, ◌≤◌, ◌<◌, max, min, List, [], ◌∷◌, ◌++◌, Contains, length, map, Some, sym, ap, subst, ◌∙◌, append_assoc, arith}
+use Rattle.std.proofs.Common.{◌≡◌, ◌≢◌, ◌⊎◌, inl, inr, ⊎_elim, ℕ, ◌+◌, ◌≤◌, ◌<◌, max, min, List, [], ◌∷◌, ◌++◌, Contains, length, map, Some, sym, ap, subst, ◌∙◌, append_assoc, arith}
 use Rattle.std.proofs.lemmas.Bool.{cases_lt}
 use Rattle.std.proofs.lemmas.List.{length-map}
 use Rattle.std.specs.Prelude.{slice_get}
@@ -8,12 +8,12 @@ use Rattle.std.specs.List.{AllByRecursion}
 use Rattle.accounts.proofs.Following.{got_there}
 use Rattle.accounts.proofs.Lists.{each_last, got_behind}
 use Rattle.accounts.specs.Filed.{Filed, following_of}
-use Rattle.accounts.specs.FollowedFile.{BeganEarlier, BeginsThere, IsListedAs, IsMomentOf, WasShownLast, begins_by, start_in}
+use Rattle.accounts.specs.FollowedFile.{BeganEarlier, BeginsAs, BeginsThere, IsListedAs, IsMomentOf, ShrankBefore, WasShownLast, begins_by, start_in}
 use Rattle.accounts.specs.Opened.{Opened}
 use Rattle.accounts.specs.RunsInARow.{HaveOwnIds}
 use Rattle.accounts.specs.Watch.{Name}
 use Rattle.accounts.specs.Watched.{WasRemovedSince, WasRenamedSince}
-use Rattle.kept_rows.specs.Followed.{IsBegun}
+use Rattle.kept_rows.specs.Followed.{IsBegun, Start}
 use Rattle.kept_rows.specs.Run.{Run, Scan}
 use Rattle.kept_rows.specs.Scans.{IsBefore, IsBehind, IsFirstPath, ShowsFileTo, ShowsKey}
 use Rattle.kept_rows.specs.Telling.{begun_moment}
@@ -158,7 +158,16 @@ module _ (run : ToldRun) (are : AreToldIn run) where
       within = let same = (shown_as file.opened listed).size_is in omega (arith, within, same);
     }
 
-    module _ (own : HaveOwnIds run.settings.inputs) (begins : BeginsThere its_run file last ⊎ BeganEarlier its_run file last) where
+    pub shrank_before : (start : Start) → file.known_from < length listed.front → IsBegun its_run (following_of file) → listed.entry.size < start.base →
+        start_in file.opened ≡ record { epoch = start.epoch + 1; base = 0 } → ShrankBefore its_run file last start
+    shrank_before start earlier begun below starts = record {
+      earlier = let same = length-map listed.front scan_by in omega (arith, earlier, same);
+      begun = begun;
+      below = let same = (shown_as file.opened listed).size_is in omega (arith, below, same);
+      starts = starts;
+    }
+
+    module _ (own : HaveOwnIds run.settings.inputs) (begins : BeginsAs its_run file last file.shrank_from) where
       abbrev pub listed_as : IsListedAs its_run file
       listed_as = record { last = last; begins = begins }
 
