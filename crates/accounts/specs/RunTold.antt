@@ -20,7 +20,9 @@ pub record RunNotes : Type 0 where
   pub collected : List Note
   pub all : List Note
 
--- a file leaves only once its row went
+-- a file leaves only once its row went. This is said of all notes of the run, which is right for one that goes on, too: a row that went stays gone,
+-- whatever is noted later (`no_row_goes_back` of ship_core), and the notes of a later slot of its key are none of this one. So it holds of all notes if
+-- it held of those that were noted as the file left. That a file leaves as soon as its row went is not said
 abbrev pub LeftWithoutRow : List Note → Filed → Type 0
 LeftWithoutRow notes file = IfSome (left_in file) (λ last. row_over (slot_in file) notes ≡ None)
 
@@ -28,8 +30,8 @@ LeftWithoutRow notes file = IfSome (left_in file) (λ last. row_over (slot_in fi
 abbrev pub all_slots : List Filed → List Hidden → List Following
 all_slots files hiddens = map following_of files ++ map hidden_following hiddens
 
--- where two slots have one key, the earlier one was gone, and its row, before the later one was known; and a key that a later scan than the first made
--- known was not known before
+-- where two slots have one key, the earlier one was gone, and its row, before the later one was known; this, too, is said of all notes. And a key that
+-- a later scan than the first made known was not known before
 pub record TakeTurns (run : Run) (files : List Filed) (hiddens : List Hidden) (notes : List Note) : Type 0 where
   pub gone : (one later : Following) → Contains (all_slots files hiddens) one → Contains (all_slots files hiddens) later → one.slot < later.slot → IsGoneBefore one later
   pub no_row : (one later : Following) → Contains (all_slots files hiddens) one → Contains (all_slots files hiddens) later → one.slot < later.slot →
