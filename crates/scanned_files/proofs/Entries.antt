@@ -1,5 +1,5 @@
 -- What the entries of a run's scans say of a key: a scan that gave an entry of it shows it, one that gave none does not; so a file is begun by its
--- entry or its row, and its key is newly known if no earlier scan gave it.
+-- entry or its row, and its key is newly known if no scan gave it since it was not known.
 use Rattle.std.proofs.Common.{◌≡◌, inl, inr, ⊎_elim, ℕ, zero, suc, List, [], ◌∷◌, Contains, None, Some, refl, sym, ap, subst, ◌∙◌}
 use Rattle.std.proofs.lemmas.Option.{slice_get-map}
 use Rattle.std.specs.Prelude.{flat_map, option_map, slice_get}
@@ -9,7 +9,7 @@ use Rattle.accounts.specs.FollowedFile.{begins_by}
 use Rattle.accounts.specs.RunsInARow.{HaveOwnIds}
 use Rattle.event_tree.specs.declared.input_rule.InputRule.{InputRule}
 use Rattle.kept_rows.specs.Account.{Following}
-use Rattle.kept_rows.specs.Followed.{IsBegun, IsKeyOf, IsNewlyKnown, StartsAt, WasHidden, WasHiddenByWhole, start_by, start_of, start_unlisted}
+use Rattle.kept_rows.specs.Followed.{HadNoRow, IsBegun, IsKeyOf, IsNewlyKnown, IsUnknownFrom, StartsAt, WasHidden, WasHiddenByWhole, start_by, start_of, start_unlisted}
 use Rattle.kept_rows.specs.Run.{Run, Scan}
 use Rattle.kept_rows.specs.Scans.{IsFirstPath, ShowsKey}
 use Rattle.prospect.proofs.Doubled.{keys_apart}
@@ -24,7 +24,7 @@ use Rattle.told_scans.specs.ToldScan.{ToldScan, scan_by}
 use Rattle.told_scans.specs.ToldScans.{AreToldIn, ToldRun, run_by}
 use Rattle.wire_base.specs.declared.row.Row.{Row}
 use Rattle.scanned_files.proofs.Lists.{IsPartedAt, got_of_map, parted_at}
-use Rattle.scanned_files.specs.Listings.{AreBegunBy, HasEntry, HasNoEntry, HasNoMore, NoneHasEntry}
+use Rattle.scanned_files.specs.Listings.{AreBegunBy, HasEntry, HasNoEntry, HasNoEntryFrom, HasNoMore, NoneHasEntry}
 
 -- ---- one entry a key
 
@@ -110,14 +110,19 @@ module _ (run : ToldRun) (are : AreToldIn run) where
         hidden = not_shown number told has.is.told_is key has.is.none;
       }
 
-  newly_known : (followings : List Following) (following : Following) → find following.key run.opening ≡ None → NoneHasEntry run.scans following.key 0 following.known_from →
-      IsNewlyKnown its_run followings following
-  newly_known followings following no_row none = λ later. record {
-    no_row = inl no_row;
-    since = 0;
-    unknown = inl refl;
-    hidden = was_hidden following.key 0 following.known_from none;
+  newly_known : (followings : List Following) (following : Following) (since : ℕ) → HadNoRow its_run followings following →
+      HasNoEntryFrom run.scans followings following since → NoneHasEntry run.scans following.key since following.known_from → IsNewlyKnown its_run followings following
+  newly_known followings following since no_row unknown none = λ later. record {
+    no_row = no_row;
+    since = since;
+    unknown = by_case unknown;
+    hidden = was_hidden following.key since following.known_from none;
   }
+    where
+      by_case : HasNoEntryFrom run.scans followings following since → IsUnknownFrom its_run followings following since
+      by_case (inl first) = inl first
+      by_case (inr (inl went)) = inr (inl went)
+      by_case (inr (inr more)) = inr (inr (hidden_by_whole since following.key more))
 
   -- ---- how a file is begun
 

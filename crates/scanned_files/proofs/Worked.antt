@@ -18,7 +18,7 @@ use Rattle.glob_paths.specs.Sign.{signs}
 use Rattle.glob_paths.specs.Token.{tokens}
 use Rattle.kept_rows.proofs.Worked as worked
 use Rattle.kept_rows.specs.Account.{Following}
-use Rattle.kept_rows.specs.Followed.{IsBegun, IsNewlyKnown, StartsAt, StartsListed, StartsUnlisted}
+use Rattle.kept_rows.specs.Followed.{HadNoRow, HasWent, IsBegun, IsNewlyKnown, StartsAt, StartsListed, StartsUnlisted}
 use Rattle.kept_rows.specs.Run.{Scan}
 use Rattle.kept_rows.specs.Scans.{AreScans, ShowsKey}
 use Rattle.outside.specs.Folders.{Closed, Event, FolderHistory, Opened as OpenedAs}
@@ -31,6 +31,7 @@ use Rattle.prospect.specs.PastFaults.{Answered, Served}
 use Rattle.prospect.specs.Scan.{Listing, event_of, with_events}
 use Rattle.prospect.specs.declared.listed.Listed.{Listed}
 use Rattle.ship_core.proofs.Members.{none_there, there_cases}
+use Rattle.ship_core.specs.Rows.{find}
 use Rattle.told_events.proofs.Worked.{a_log}
 use Rattle.told_scans.proofs.ExactScans.{are_exact_scans}
 use Rattle.told_scans.proofs.Members.{some_is}
@@ -39,7 +40,8 @@ use Rattle.told_scans.specs.ToldScan.{IsTold, IsToldWithoutFault, ToldScan, aski
 use Rattle.told_scans.specs.ToldScans.{AreToldIn, NothingListed, ToldRun, run_by}
 use Rattle.scanned_files.proofs.Entries.{are_begun, not_shown}
 use Rattle.scanned_files.proofs.Listings.{are_shown}
-use Rattle.scanned_files.specs.Listings.{HasEntry, HasNoMore, NoneHasEntry, WasListedBy}
+use Rattle.scanned_files.specs.Listings.{HasEntry, HasNoEntryFrom, HasNoMore, NoneHasEntry, WasListedBy}
+use Rattle.wire_base.specs.declared.row.Row.{Row}
 
 abbrev inputs : List InputRule
 inputs = worked.settings.inputs
@@ -247,7 +249,27 @@ b_not_before zero told least less is = not_there (let q : Some first ≡ Some to
 b_not_before (suc number) told least less is = absurd (omega (arith, less))
 
 b_newly_known : IsNewlyKnown (run_by run) [] following_b
-b_newly_known = (are_begun run are_told).newly_known [] following_b refl b_not_before
+b_newly_known = (are_begun run are_told).newly_known [] following_b 0 (inl refl) (inl refl) b_not_before
+
+-- the key of the first file is known anew by a third scan, after its slot went by the second one, which hid it; the scans before, of which the first
+-- showed it, are not asked
+abbrev went_a : Following
+went_a = record { slot = 0; input = 0; key = worked.key; epoch = 0; base = 0; known_from = 0; gone_after = Some 1; tails = [] }
+
+abbrev again_a : Following
+again_a = record went_a { slot = 2; known_from = 2; gone_after = None }
+
+a_went : HasWent (went_a ∷ again_a ∷ []) again_a 1
+a_went = record { earlier = went_a; among = (0, omega arith, refl); before = omega arith; key_is = refl; gone = refl }
+
+a_newly_known_again : IsNewlyKnown (run_by run) (went_a ∷ again_a ∷ []) again_a
+a_newly_known_again =
+    (are_begun run are_told).newly_known (went_a ∷ again_a ∷ []) again_a 2 (inr (1, a_went)) (inr (inl (1, a_went, refl)))
+    (λ number told least less is. absurd (omega (arith, least, less)))
+
+-- and by the second scan, which was whole and gave no entry of it, it was not known either
+a_not_known_by_the_second : HasNoEntryFrom run.scans (went_a ∷ again_a ∷ []) again_a 1
+a_not_known_by_the_second = inr (inr a_has_no_more)
 
 b_entry : HasEntry run.scans 1 key_b (entry (with_events first.scanned between_them) shown_b b_is_covered)
 b_entry = record { told = second; told_is = refl; there = (0, omega arith, refl); keyed = refl }
@@ -256,6 +278,22 @@ b_begun : IsBegun (run_by run) following_b
 b_begun = (are_begun run are_told).by_entry following_b (entry (with_events first.scanned between_them) shown_b b_is_covered) b_entry refl
 
 -- ---- what is refused
+
+-- the key of the first file as one that was not known from the first scan on
+known_anew_since_the_first : NoneHasEntry run.scans worked.key 0 2 → ⊥
+known_anew_since_the_first none =
+    none 0 first (omega arith) (omega arith) refl (0, entry nothing_yet worked.shown worked.is_covered, omega arith, refl, refl)
+
+-- its second slot as newly known, though the registry had a row of it and no slot of it went
+known_anew_with_its_row : (opening : List Row) (row : Row) → find worked.key opening ≡ Some row → HadNoRow (run_by (record run { opening = opening })) (again_a ∷ []) again_a → ⊥
+known_anew_with_its_row opening row found (inl none) = let q : Some row ≡ None = sym found ∙ none in cc
+known_anew_with_its_row opening row found (inr went) = elim (there_cases again_a went.1.earlier [] went.1.among) [
+  | inl same ↦
+      let slot : 2 ≡ went.1.earlier.slot = ap (λ (f : Following). f.slot) same in
+      let before = went.1.before in
+      omega (arith, slot, before)
+  | inr nothing ↦ none_there went.1.earlier nothing
+]
 
 -- a run that leaves its second scan out
 one_left_out : AreToldIn (record run { scans = first ∷ [] }) → ⊥

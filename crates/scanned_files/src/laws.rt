@@ -8,7 +8,8 @@ pub fn told_runs_are_by_scans()
 {}
 
 /// A file begins by the entry of the scan from which on its key is known, or by its row, if the first scan gave no entry of the key; a
-/// key without a row is newly known by the first scan that gave an entry of it. A law; it computes nothing.
+/// key without a row, or whose earlier slot went, is newly known by the first scan since then that gave an entry of it. A law; it
+/// computes nothing.
 pub fn entries_tell_how_files_begin()
     ensures { (run : ToldRun) → AreToldIn run → AreBegunBy run }
 {}
