@@ -18,13 +18,9 @@ use Rattle.file_table.specs.declared.table.FileTable.{FileTable}
 use Rattle.file_table.specs.Entries.{FitsNews, begun_entry, deed_of, next_entry}
 use Rattle.file_table.specs.Events.{Began, Created, FileEvent, Gone, News, SlotEvent, events_of, life}
 use Rattle.file_table.specs.Standing.{IsFile, IsFileOf, deed_for, deed_in, is_known}
-use Rattle.file_table.specs.Tables.{Adds, AreSame, Hears, StandsFor, file_of}
+use Rattle.file_table.specs.Tables.{Adds, AreSame, Hears, Puts, StandsFor, file_of}
 use Rattle.file_table.proofs.Deeds.{deed_is}
 use Rattle.file_table.proofs.Steps.{next_so}
-
-pub record Puts (old new : FileTable) (slot : ℕ) (entry : Option FileEntry) : Type 0 where
-  pub here : file_of new slot ≡ entry
-  pub others : (other : ℕ) → other ≢ slot → file_of new other ≡ file_of old other
 
 pub puts_updated : (old new : FileTable) (slot : ℕ) (entry : Option FileEntry) → Updates nat_cmp old.files new.files slot entry → Puts old new slot entry
 puts_updated old new slot entry updates = record {

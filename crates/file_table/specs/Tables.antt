@@ -1,6 +1,6 @@
 -- Which events a table has taken in (this project's profile): it has an entry of each slot that began and is not gone since, as
 -- the slot's events say.
-use Rattle.std.specs.Prelude.{◌≡◌, ℕ, ◌≤◌, ◌<◌, Bool, true, false, not, ◌&&◌, List, ◌∷◌, Option, Some, None, IfSome}
+use Rattle.std.specs.Prelude.{◌≡◌, ◌≢◌, ℕ, ◌≤◌, ◌<◌, Bool, true, false, not, ◌&&◌, List, ◌∷◌, Option, Some, None, IfSome}
 use Rattle.std.specs.Borrow.{Bor}
 use Rattle.std.specs.Option.{option_copied}
 use Rattle.std.specs.BTreeMap.{get}
@@ -34,6 +34,11 @@ MayHear one entry = IfSome entry (λ known. FitsNews one known.stand)
 -- the same entries
 abbrev pub AreSame : FileTable → FileTable → Type 0
 AreSame old new = new.files.entries ≡ old.files.entries
+
+-- this is the entry of the slot now, and each other slot has the entry that it had
+pub record Puts (old new : FileTable) (slot : ℕ) (entry : Option FileEntry) : Type 0 where
+  pub here : file_of new slot ≡ entry
+  pub others : (other : ℕ) → other ≢ slot → file_of new other ≡ file_of old other
 
 abbrev pub StandsFor : List SlotEvent → FileTable → Type 0
 StandsFor told table = (slot : ℕ) → IsFile (events_of slot told) (file_of table slot)

@@ -1,7 +1,8 @@
-ghost use Rattle.std.specs.Prelude.{◌≡◌, [], IfOk, IfSome, IfNone, OnErr, OnOk};
+ghost use Rattle.std.specs.Prelude.{◌≡◌, [], IfOk, IfSome, IfNone, None, OnErr, OnOk, Some};
 ghost use Rattle.std.specs.Bool.{OnFalse, OnTrue};
+ghost use Rattle.file_table.specs.Entries.{created_entry};
 ghost use Rattle.file_table.specs.Events.{Began, Created, Gone, IsCreated, News, news_of};
-ghost use Rattle.file_table.specs.Tables.{Adds, AreSame, Closes, EndsScan, Finds, Hears, IsFirstFrom, MayHear, StandsFor, Takes, closing_at, event_at, file_of, may_go, was_missed};
+ghost use Rattle.file_table.specs.Tables.{Adds, AreSame, Closes, EndsScan, Finds, Hears, IsFirstFrom, MayHear, Puts, StandsFor, Takes, closing_at, event_at, file_of, may_go, was_missed};
 
 use crate::closing::closing_of;
 use crate::{At, Deed, FileEntry, FileNews, Inactive, Stand, TailLook};
@@ -125,13 +126,23 @@ impl FileTable {
         }
     }
 
-    fn create(&mut self, slot: Slot) -> Result<Deed, NoMemory>
+    /// A scan shows a file for the first time. The same as `take` of its change, for a caller that takes the memory for all of them
+    /// before it takes a change.
+    pub fn create(&mut self, slot: Slot) -> Result<Deed, NoMemory>
         ensures created { IfOk result (λ asked.
             Hears (event_at slot Created) self.old asked self.new) }
+        ensures puts { OnOk result (Puts self.old self.new slot.0 (Some created_entry)) }
         ensures kept { OnErr result (AreSame self.old self.new) }
     {
         self.files.insert(slot.0, FileEntry::created())?;
         Ok(Deed::Nothing)
+    }
+
+    /// Takes the file of this slot out, as if no scan had shown it: for a scan that is refused after its files were created.
+    pub fn withdraw(&mut self, slot: Slot)
+        ensures { Puts self.old self.new slot.0 None }
+    {
+        self.files.remove(&slot.0);
     }
 
     /// Takes in one piece of news; what it asks for.

@@ -139,6 +139,13 @@ impl Prospector {
         Some(&one.file)
     }
 
+    /// The slot that the next file gets.
+    pub fn next_slot(&self) -> Slot
+        ensures { result.0 ≡ self.now.next }
+    {
+        Slot(self.next)
+    }
+
     /// The slot of the known file with this key. `None` exactly where there is none. Takes little time; only after a scan that
     /// was told without memory for its keys it looks at each file, until the next scan.
     pub fn slot_of(&self, key: &[u8]) -> Option<Slot>

@@ -3,7 +3,8 @@ use Rattle.std.specs.Option.{IfSome}
 use Rattle.file_table.specs.declared.file_entry.FileEntry.{FileEntry}
 use Rattle.file_table.specs.declared.table.FileTable.{FileTable}
 use Rattle.file_table.specs.Entries.{FitsNews}
-use Rattle.file_table.proofs.Puts.{Puts, hears_some, puts_written}
+use Rattle.file_table.specs.Tables.{Puts}
+use Rattle.file_table.proofs.Puts.{hears_some, puts_written}
 use Rattle.file_table.proofs.table.FileTable.hear.Goals as goal
 
 pub returns-in-Some : goal.returns-in-Some
