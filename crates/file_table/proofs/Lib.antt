@@ -1,5 +1,5 @@
 mod Deeds
-mod Puts
+pub mod Puts
 mod Standings
 mod Steps
 mod Worked
