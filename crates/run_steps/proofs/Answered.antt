@@ -42,7 +42,7 @@ pub record WentOn (step : Step) : Type 0 where
 
 -- ---- by where the file stands
 
-answered_quiet : (stage : Stage) → AsksNothing stage → MayReopenAt stage
+pub answered_quiet : (stage : Stage) → AsksNothing stage → MayReopenAt stage
 answered_quiet Reads nothing = tt
 answered_quiet Asks nothing = absurd nothing
 answered_quiet Ended nothing = tt

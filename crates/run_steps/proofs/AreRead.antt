@@ -11,7 +11,7 @@ use Rattle.told_scans.specs.OnlyAsked.{WasClosedWith}
 use Rattle.run_steps.specs.ReadBehind.{ReadsBehind}
 use Rattle.run_steps.specs.Shown.{IsStillOpen}
 use Rattle.run_steps.specs.SoFar.{Left}
-use Rattle.run_steps.specs.Stands.{IsLeftRead}
+use Rattle.run_steps.specs.Stands.{HoldsWhereNoFault, IsLeftRead}
 use Rattle.run_steps.proofs.Closing.{closed_again, closed_so}
 use Rattle.run_steps.proofs.ReadPlaces.{OnlyRead, only_reads}
 
@@ -21,9 +21,12 @@ asked_alone None asked base are only = tt
 asked_alone (Some tail) asked base are only = only_reads base tail.looks (subst OnlyRead (sym are) only)
 
 -- none was closed
+pub none_left_so : (Holds : Left → TailHistory → Type 0) (shown : Option FolderHistory) (left : List Left) → left ≡ [] → IfSome shown (λ now. AllByRecursion (HoldsWhereNoFault Holds now) left)
+none_left_so Holds None left none = tt
+none_left_so Holds (Some now) left none = subst (λ (l : List Left). AllByRecursion (HoldsWhereNoFault Holds now) l) (sym none) tt
+
 pub none_left_read : (shown : Option FolderHistory) (left : List Left) → left ≡ [] → IfSome shown (λ now. AllByRecursion (IsLeftRead now) left)
-none_left_read None left none = tt
-none_left_read (Some now) left none = subst (λ (l : List Left). AllByRecursion (IsLeftRead now) l) (sym none) tt
+none_left_read shown left none = none_left_so (λ one tail. ReadsBehind false one.turned.history.begin.base tail.looks) shown left none
 
 abbrev closing_with : List Look → ℕ → Option Closing
 closing_with looks faults = Some (record { looks = looks; faults = faults })
@@ -31,12 +34,12 @@ closing_with looks faults = Some (record { looks = looks; faults = faults })
 abbrev faults_of : Option Closing → ℕ
 faults_of closing = option_map_or (λ (c : Closing). c.faults) closing 0
 
-module _ (now : FolderHistory) (more : List Event) (base : ℕ) (tail : TailHistory) (within : tail.opening < length now.events) where
+module _ (now : FolderHistory) (more : List Event) (Holds : Type 0) (tail : TailHistory) (within : tail.opening < length now.events) where
   abbrev after : FolderHistory
   after = record now { events = now.events ++ more }
 
   abbrev ReadIfNoFault : FolderHistory → Type 0
-  ReadIfNoFault folder = closing_in tail.opening (drop (suc tail.opening) folder.events) ≡ closing_with tail.looks 0 → ReadsBehind false base tail.looks
+  ReadIfNoFault folder = closing_in tail.opening (drop (suc tail.opening) folder.events) ≡ closing_with tail.looks 0 → Holds
 
   -- its closing is the same, whatever is closed later
   pub read_still : WasClosedWith now tail.opening tail.looks → ReadIfNoFault now → ReadIfNoFault after
@@ -47,7 +50,7 @@ module _ (now : FolderHistory) (more : List Event) (base : ℕ) (tail : TailHist
       reads (was.closing ∙ ap (closing_with tail.looks) none)
 
   -- it is closed by the first of these that closes it
-  pub read_now : (faults : ℕ) → IsStillOpen now tail.opening → closing_in tail.opening more ≡ closing_with tail.looks faults → (faults ≡ 0 → ReadsBehind false base tail.looks) → ReadIfNoFault after
+  pub read_now : (faults : ℕ) → IsStillOpen now tail.opening → closing_in tail.opening more ≡ closing_with tail.looks faults → (faults ≡ 0 → Holds) → ReadIfNoFault after
   read_now faults still first reads closing =
       let same : closing_with tail.looks faults ≡ closing_with tail.looks 0 =
       sym (closed_so now more tail.opening (record { looks = tail.looks; faults = faults }) within still first) ∙ closing in

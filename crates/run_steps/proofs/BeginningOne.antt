@@ -39,6 +39,7 @@ use Rattle.run_steps.specs.SoFar.{Left, SoFar, books_of, files_in, files_of}
 use Rattle.run_steps.specs.Stands.{AreEachOnce, Books, Files, Stands}
 use Rattle.run_steps.proofs.AreRead.{none_left_read}
 use Rattle.run_steps.proofs.EarlierOn.{opened_once}
+use Rattle.run_steps.proofs.FollowedFiles.{begins_to_follow}
 use Rattle.run_steps.proofs.Admitting.{all_of, often_mapped, spans_often}
 use Rattle.accounts.proofs.Joining.{same_slot, tells_slots}
 use Rattle.run_steps.proofs.TailOpened.{opened_now}
@@ -106,6 +107,7 @@ module _ {T W L D : Type 0} (words : Words T W L D) (start : Began D) (moments :
       over = over;
       read = λ yet some. record { in_lanes = (stands.files.read tt some).in_lanes; in_left = none_left_read later so_far.left (stands.files.reading refl).none_left };
       answered = λ may some. stands.files.answered tt some;
+      following = λ is. begins_to_follow words.tails start shown later moments (lanings crew.lanes.items) phase (files_of so_far) stands.files;
       tell = stands.files.tell;
       left_tell = stands.files.left_tell;
       scans = stands.files.scans;

@@ -29,12 +29,12 @@ use Rattle.run_steps.specs.Began.{Began}
 use Rattle.run_steps.specs.Changing.{ChangesAt}
 use Rattle.run_steps.specs.ClosesTail.{Readers}
 use Rattle.run_steps.specs.FolderSeen.{FolderSeen}
-use Rattle.run_steps.specs.LastEpoch.{HasAnswered, HaveOneOver, IsLastOver}
+use Rattle.run_steps.specs.LastEpoch.{HasAnswered, HasAnsweredWhereNoFault, HaveOneOver, IsLastOver}
 use Rattle.run_steps.specs.ReadBehind.{ReadsBehind, ReadsWhereNoFault}
-use Rattle.run_steps.specs.RunState.{Finished, Halted, Leaving, OutOfEpochs, Phase, Reading}
+use Rattle.run_steps.specs.RunState.{Finished, Following, Halted, HaltedFollowing, Leaving, OutOfEpochs, Phase, Reading}
 use Rattle.run_steps.specs.Shown.{HasShown}
 use Rattle.run_steps.specs.SoFar.{Left, SoFar, all_told, files_in, files_of, told_before}
-use Rattle.run_steps.specs.Stands.{HaveGiven, IsLeftRead, watch_of}
+use Rattle.run_steps.specs.Stands.{HaveGiven, IsLeftAnswered, IsLeftRead, watch_of}
 use Rattle.run_steps.proofs.Admitting.{booked_by, placed_by}
 use Rattle.run_steps.proofs.ChangedLanes.{StandsOn, after, before, each_changed, notes_same, parcels_same, passes_same, spans_same, stands_on}
 use Rattle.run_steps.proofs.Grounds.{all_backed}
@@ -179,6 +179,8 @@ module _ {T W L D : Type 0} (words : Words T W L D) (start : Began D) (moments :
     over Finished is = tt
     over Leaving is = tt
     over Halted is = tt
+    over Following is = tt
+    over HaltedFollowing is = tt
     over (OutOfEpochs slot) is = some_file (IsLastOver slot) (over_alike its.one its.other its.like slot) is
 
     shown : HasShown start.settings start.shown new.folder.told (files_of later)
@@ -240,6 +242,13 @@ module _ {T W L D : Type 0} (words : Words T W L D) (start : Began D) (moments :
           };
           answered = λ may some. let were = reads.files.answered may some in
               record { in_lanes = each_changed old.lanes new.lanes change HasAnswered (subst MayReopenAt (sym stage_same)) were.in_lanes; in_left = were.in_left };
+          following = λ follows. let were = reads.files.following follows in record {
+            none_over = each_changed old.lanes new.lanes change (λ (h : Harvester T). h.reader.stage ≢ stage.Over) not_over were.none_over;
+            may = were.may;
+            in_lanes = λ some. each_changed old.lanes new.lanes change (HasAnsweredWhereNoFault words.tails.faults)
+                (λ answered none. subst MayReopenAt (sym stage_same) (answered (sym (ap words.tails.faults tail_same) ∙ none))) (were.in_lanes some);
+            in_left = λ some. subst (λ (f : FolderSeen). IfSome f.told (λ folder. AllByRecursion (IsLeftAnswered folder) so_far.left)) (sym same) (were.in_left some);
+          };
           tell = λ some. each_changed old.lanes new.lanes change (λ (h : Harvester T). IsSome (words.tails.told h.tail)) (subst (λ (t : T). IsSome (words.tails.told t)) (sym tail_same)) (reads.files.tell some);
           left_tell = reads.files.left_tell;
           scans = reads.files.scans;

@@ -281,6 +281,7 @@ module _ {T W L D : Type 0} (words : Words T W L D) (start : Began D) (crew : Cr
           in_left = none_left_read start.shown [] refl;
         };
         answered = λ may some. record { in_lanes = each_of_none HasAnswered (lanings crew.lanes.items) none; in_left = tt };
+        following = λ follows. absurd follows;
         tell = λ some. each_of_none (λ (h : Harvester T). IsSome (words.tails.told h.tail)) (lanings crew.lanes.items) none;
         left_tell = λ some. tt;
         scans = record { none_with_once = λ once. refl; timed = given.given.among; known = λ some. tt };

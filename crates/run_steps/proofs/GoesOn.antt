@@ -114,7 +114,7 @@ module _ {T W L D F K B : Type 0} {words : StepWords T W L D F K B} {context : C
     onward = onward_by_two words.all (rules_of context) (state_at words first) (state_at words mid) (state_at words last) (one.keeps.at_rest tt) one.onward then.onward;
   }
 
-  keeps_closing : {met : Option Met} {first mid : Stop T W L D F K B} (phase : Phase) (closed : List (Harvester T)) (folder : MutBor F) (lanes : Vec (Lane T) Global) → Keeps words context Collects met first mid →
+  pub keeps_closing : {met : Option Met} {first mid : Stop T W L D F K B} (phase : Phase) (closed : List (Harvester T)) (folder : MutBor F) (lanes : Vec (Lane T) Global) → Keeps words context Collects met first mid →
       ClosesTails words.all.tails closed (readers_at words mid) (record { folder = words.seen folder.now; lanes = lanings lanes.items }) → folder.ghost_name ≡ mid.system.folder.ghost_name →
       Keeps words context Collects met first (record mid { phase = phase; crew = record mid.crew { lanes = lanes }; system = record mid.system { folder = folder } })
   keeps_closing {met = met} {first = first} {mid = mid} phase closed folder lanes keeps closes same =
@@ -179,6 +179,30 @@ module _ {T W L D F K B : Type 0} {words : StepWords T W L D F K B} {context : C
     able = keeps.able;
     failing = keeps.failing;
     none_failed = none;
+    carriers_go_on = keeps.carriers_go_on;
+    as_many = keeps.as_many;
+    a_faults_never_fall = keeps.a_faults_never_fall;
+    b_faults_never_fall = keeps.b_faults_never_fall;
+    rings_never_fall = keeps.rings_never_fall;
+    clock_goes_on = keeps.clock_goes_on;
+    keeper = keeps.keeper;
+    same_objects = keeps.same_objects;
+    still_tell = keeps.still_tell;
+    readers = keeps.readers;
+    same_folder = keeps.same_folder;
+    same_clock = keeps.same_clock;
+    same_bell = keeps.same_bell;
+  }
+
+  -- whatever the phases are
+  pub keeps_at : {met : Option Met} {first last : Stop T W L D F K B} (from phase : Phase) → Keeps words context Collects met first last →
+      Keeps words context Collects met (record first { phase = from }) (record last { phase = phase })
+  keeps_at from phase keeps = record {
+    at_rest = keeps.at_rest;
+    ready = keeps.ready;
+    able = keeps.able;
+    failing = keeps.failing;
+    none_failed = keeps.none_failed;
     carriers_go_on = keeps.carriers_go_on;
     as_many = keeps.as_many;
     a_faults_never_fall = keeps.a_faults_never_fall;

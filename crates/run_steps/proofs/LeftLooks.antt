@@ -33,7 +33,7 @@ use Rattle.run_steps.specs.SoFar.{FilesSoFar, Left, SoFar, files_of, opened_befo
 use Rattle.run_steps.specs.Stands.{Files, FilesNow, IsLeftSo, Stands, watch_of}
 use Rattle.run_steps.proofs.Openings.{since_all}
 use Rattle.run_steps.proofs.TailClosed.{files_at, reads_on}
-use Rattle.run_steps.proofs.TailsLeft.{files_left, left_not_reading}
+use Rattle.run_steps.proofs.TailsLeft.{any_left, files_left, left_not_reading}
 use Rattle.run_steps.proofs.Whole.{none_in}
 
 -- ---- tails that were closed
@@ -88,7 +88,7 @@ module _ {T W L D : Type 0} (words : Words T W L D) (closed : List (Harvester T)
   once_closed start so_far stands some =
       let before : Readers T = record { folder = old; lanes = lanings crew.lanes.items } in
       let after : Readers T = record { folder = new; lanes = lanings lanes.items } in
-      let on = reads_on words start moments crew.carriers.items (notes storing.keeper.now.pass.got) (phase_left phase) (left_not_reading phase) closed so_far before after closes
+      let on = reads_on words start moments crew.carriers.items (notes storing.keeper.now.pass.got) (phase_left phase) (left_not_reading phase) closed so_far before after closes (any_left phase closed)
       (record { files = files_left words start (files_at words start moments crew.carriers.items (notes storing.keeper.now.pass.got) phase before) (files_of so_far) stands.files; books = stands.books }) in
       ⊎_elim
       (left_looks words.tails start (files_at words start moments crew.carriers.items (notes storing.keeper.now.pass.got) (phase_left phase) after) (files_of on.later) on.reads.files)

@@ -22,8 +22,8 @@ use Rattle.run_steps.specs.Areas.{IsAtRest}
 use Rattle.run_steps.specs.ClosesTail.{some_failed}
 use Rattle.run_steps.specs.MetBy.{IsOverOf, SomeHarvester}
 use Rattle.run_steps.specs.Onward.{Onward, RunRules}
-use Rattle.run_steps.specs.RunState.{Finished, OutOfEpochs, Phase, Reading, RunState, within}
-use Rattle.run_steps.specs.Stands.{ReadsYet}
+use Rattle.run_steps.specs.RunState.{Finished, Following, OutOfEpochs, Phase, Reading, RunState, within}
+use Rattle.run_steps.specs.Stands.{Follows, ReadsYet}
 use Rattle.run_steps.proofs.Growing.{grown_by_nothing, grown_by_two}
 use Rattle.run_steps.proofs.Rounding.{stands_on}
 use Rattle.run_steps.proofs.Settling.{stands_settled}
@@ -50,12 +50,13 @@ module _ {T W L D : Type 0} (words : Words T W L D) where
         ((phase ≡ Reading) ⊎ (phase ≡ Finished) → from ≡ Reading) →
         ((phase ≡ Reading) ⊎ (phase ≡ Finished) → round.epochs ≡ None) → (phase ≡ Finished → (when.last ≡ true) × AllByRecursion IsDone (lanings new.lanes.items)) →
         ((slot : Slot) → phase ≡ OutOfEpochs slot → SomeHarvester (IsOverOf slot) (lanings new.lanes.items)) →
-        (ReadsYet phase → (phase ≡ Reading) × (round.memory ≡ false)) →
+        (ReadsYet phase → ((phase ≡ Reading) ⊎ Follows phase) × (round.memory ≡ false)) →
+        (Follows phase → (phase ≡ Following) × (from ≡ Following) × (round.epochs ≡ None) × (round.memory ≡ false)) →
         ((phase ≡ Reading) ⊎ (phase ≡ Finished) → (round.memory ≡ false) × (some_failed (lanings new.lanes.items) ≡ false)) →
         Onward words (record { settings = settings; once = when.last }) (within shown moments old before from) (within shown later new after phase)
     unfolding Onward
-    round_onward settings when moments later from phase gives ran keeps read none_out done out yet none_refused start so_far same stands began =
-        stands_on words queue desk when (crewing old before) (crewing new after) round ran keeps from start so_far shown moments later stands gives same.once phase read none_out done out yet none_refused reads counts began
+    round_onward settings when moments later from phase gives ran keeps read none_out done out yet follows none_refused start so_far same stands began =
+        stands_on words queue desk when (crewing old before) (crewing new after) round ran keeps from start so_far shown moments later stands gives same.once phase read none_out done out yet follows none_refused reads counts began
 
     pub settle_onward : (rules : RunRules) (moments : Option (List ℕ)) (phase : Phase) → SettlingKeeps words queue desk (crewing old before) (crewing new after) round →
         Onward words rules (within shown moments old before phase) (within shown moments new after phase)

@@ -83,7 +83,7 @@ module _ (held : Held) (answer : Turn) (no_fault : answer ≢ turn.ReadFault) (m
 -- ---- a harvester
 
 -- a count that rose is not 0
-not_risen : (before now : ℕ) → now ≡ 0 → Rose before now → ⊥
+pub not_risen : (before now : ℕ) → now ≡ 0 → Rose before now → ⊥
 not_risen before now none (inl more) = omega (arith, none, more)
 not_risen before now none (inr end) = omega (arith, none, end)
 

@@ -373,6 +373,7 @@ module _ {T W L D : Type 0} (words : Words T W L D) (reads : (disk : D) → IfSo
           over = tt;
           read = λ yet some. absurd yet;
           answered = λ may some. absurd may;
+          following = λ follows. absurd follows;
           tell = λ some. each_still harvester number olds news admits (λ (h : Harvester T). IsSome (words.tails.told h.tail))
               (shown_tells start.settings so_far next (words.tails.told harvester.tail) start.shown shown later stands.files.shown shows some) (stands.files.tell some);
           left_tell = still_tell;
@@ -472,6 +473,7 @@ module _ {T W L D : Type 0} (words : Words T W L D) (reads : (disk : D) → IfSo
           over = tt;
           read = λ yet some. absurd yet;
           answered = λ may some. absurd may;
+          following = λ follows. absurd follows;
           tell = stands.files.tell;
           left_tell = λ some. each_last (λ (l : Left). IsSome l.told) others left_one (still_tell some) (shown_tells start.settings so_far next told start.shown shown mid stands.files.shown shows some);
           scans = stands.files.scans;

@@ -100,6 +100,7 @@ module _ {T W L D : Type 0} (words : Words T W L D) (reads : (disk : D) → IfSo
           over = tt;
           read = λ yet some. absurd yet;
           answered = λ may some. absurd may;
+          following = λ follows. absurd follows;
           tell = stands.files.tell;
           left_tell = stands.files.left_tell;
           scans = stands.files.scans;

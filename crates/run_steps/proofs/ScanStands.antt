@@ -1,16 +1,14 @@
 -- What stands of a run stands once it has scanned again: its folder's list has the scan, and nothing else changes.
-use Rattle.std.proofs.Common.{◌≡◌, ◌⊎◌, inl, inr, ⊎_elim, ℕ, suc, ◌<◌, ◌≤◌, false, true, List, [], ◌∷◌, ◌++◌, Contains, append_assoc, drop, length, map, Option, Some, None, IfSome, IsSome, refl, sym, ap, subst, ◌∙◌}
+use Rattle.std.proofs.Common.{◌≡◌, ◌⊎◌, inl, inr, ⊎_elim, ℕ, ◌<◌, ◌≤◌, false, true, List, [], ◌∷◌, ◌++◌, Contains, append_assoc, length, map, Option, Some, None, IfSome, IsSome, refl, sym, ap, subst, ◌∙◌}
 use Rattle.std.proofs.lemmas.Bool.{cases_lt}
 use Rattle.std.proofs.lemmas.List.{map-append}
 use Rattle.std.proofs.lemmas.List.Elements.{Contains-append_left}
 use Rattle.std.specs.Prelude.{slice_get}
 use Rattle.std.specs.List.{AllByRecursion}
-use Rattle.accounts.proofs.Grounded.{each_member}
 use Rattle.accounts.proofs.Lists.{each_last, each_then, in_order_then}
 use Rattle.accounts.proofs.Onward.{stands_with_more, told_by_other}
-use Rattle.accounts.proofs.Orderly.{member_is}
 use Rattle.accounts.specs.Hidden.{Hidden}
-use Rattle.accounts.specs.Opened.{IsTailOf, Opened}
+use Rattle.accounts.specs.Opened.{Opened}
 use Rattle.accounts.specs.Turned.{Turned}
 use Rattle.accounts.specs.Turning.{IsTurnedSo, Pairs}
 use Rattle.accounts.specs.Watch.{MayFindEnd, Name}
@@ -19,7 +17,6 @@ use Rattle.harvester.specs.declared.harvester.Harvester.{Harvester}
 use Rattle.keeper.specs.Keeping.{Keeping}
 use Rattle.kept_rows.proofs.Acknowledging.{got_in_front}
 use Rattle.kept_rows.specs.Scans.{StandInOrder}
-use Rattle.kept_rows.specs.Trace.{closing_in}
 use Rattle.lanes.specs.Laning.{Laning}
 use Rattle.outside.specs.Files.{File}
 use Rattle.outside.specs.Folders.{Event, FolderHistory}
@@ -35,21 +32,22 @@ use Rattle.told_scans.proofs.ScanAdds.{AddsClosingNone, asked_in_scan, scan_adds
 use Rattle.told_scans.proofs.ScansPlaced.{between_scanned}
 use Rattle.told_scans.proofs.ToldScans.{scan_appended}
 use Rattle.told_scans.specs.FolderOn.{FolderGoesOn}
-use Rattle.told_scans.specs.OnlyAsked.{WasClosedWith, WasOnlyAsked}
+use Rattle.told_scans.specs.OnlyAsked.{WasOnlyAsked}
 use Rattle.told_scans.specs.ToldScan.{ToldScan}
 use Rattle.told_scans.specs.ToldScans.{AreToldFrom, LiesBetween}
 use Rattle.wire_base.specs.declared.note.Note.{Note}
 use Rattle.wire_base.specs.declared.row.Row.{Row}
 use Rattle.run_steps.specs.Began.{Began}
 use Rattle.run_steps.specs.Begun.{MayBegin}
+use Rattle.run_steps.specs.LastEpoch.{IsAnswered}
 use Rattle.run_steps.specs.LaterScans.{AreLaterScans, IsKnownScan, IsNextScan, LaterScan, ScansOn, WasMissed, WasNamed, told_in}
 use Rattle.run_steps.specs.ReadBehind.{ReadsBehind}
 use Rattle.run_steps.specs.RunState.{Phase, RunState}
 use Rattle.run_steps.specs.Shown.{HasDone, HasShown, IsStillOpen, WasClosedAs, WasOpenedSince, openings_of}
 use Rattle.run_steps.specs.SoFar.{Earlier, Left, SoFar, files_of, first_opened, openings_within}
-use Rattle.run_steps.specs.Stands.{AreTurnedIn, IsLeftRead, IsLeftSo, Stands, watch_of}
-use Rattle.run_steps.proofs.AreRead.{read_still}
+use Rattle.run_steps.specs.Stands.{AreTurnedIn, HoldsWhereNoFault, IsLeftSo, Stands, watch_of}
 use Rattle.run_steps.proofs.EarlierOn.{earlier_watched}
+use Rattle.run_steps.proofs.LeftStill.{left_still}
 use Rattle.run_steps.proofs.Openings.{below_all, earlier_stays, left_stays, still_stays, with_more}
 
 -- ---- what it says of files is said still
@@ -175,22 +173,11 @@ module _ {T W L D : Type 0} (words : Words T W L D) (start : Began D) (moments :
           (still_stays start.settings before now so_far done adds.more one.opening below (adds.closes_none one.opening below) (done.still_open one among turned));
     }
 
-    -- tails that were closed were read behind each look at their length still
-    left_read : AllByRecursion (IsLeftRead now) so_far.left → AllByRecursion (IsLeftSo (watch_of start so_far.scans) so_far.opened so_far.moments) so_far.left → AllByRecursion (IsLeftRead after) so_far.left
-    left_read read so = subst (λ (h : FolderHistory). AllByRecursion (IsLeftRead h) so_far.left) (sym after_is)
-        (each_member (IsLeftRead (with_more now adds.more)) so_far.left (λ (one : Left) there. by_told one there one.told refl (member_is (IsLeftRead now) so_far.left one read there)))
-      where
-        by_told : (one : Left) → Contains so_far.left one → (o : Option TailHistory) → one.told ≡ o →
-            IfSome o (λ tail. closing_in tail.opening (drop (suc tail.opening) now.events) ≡ Some (record { looks = tail.looks; faults = 0 }) → ReadsBehind false one.turned.history.begin.base tail.looks) →
-            IfSome o (λ tail. closing_in tail.opening (drop (suc tail.opening) (with_more now adds.more).events) ≡ Some (record { looks = tail.looks; faults = 0 }) → ReadsBehind false one.turned.history.begin.base tail.looks)
-        by_told one there None is reads = tt
-        by_told one there (Some tail) is reads =
-            let of = member_is (IsLeftSo (watch_of start so_far.scans) so_far.opened so_far.moments) so_far.left one so there in
-            let tail_is : IsTailOf of.file tail = subst (λ (o : Option TailHistory). IfSome o (IsTailOf of.file)) is of.is_told.tail in
-            let below : tail.opening < length now.events = subst (λ (n : ℕ). n < length now.events) (sym tail_is.opening) (below_all start.settings before now so_far done of.file of.among) in
-            read_still now adds.more one.turned.history.begin.base tail below
-            (subst (λ (o : Option TailHistory). IfSome o (λ tail. WasClosedWith now tail.opening tail.looks)) is
-            (member_is (λ (l : Left). IfSome l.told (λ tail. WasClosedWith now tail.opening tail.looks)) so_far.left one done.closed there)) reads
+    -- what held of tails that were closed holds of them still
+    left_then : (Holds : Left → TailHistory → Type 0) → AllByRecursion (HoldsWhereNoFault Holds now) so_far.left → AllByRecursion (IsLeftSo (watch_of start so_far.scans) so_far.opened so_far.moments) so_far.left →
+        AllByRecursion (HoldsWhereNoFault Holds after) so_far.left
+    left_then Holds holds so = subst (λ (h : FolderHistory). AllByRecursion (HoldsWhereNoFault Holds h) so_far.left) (sym after_is)
+        (left_still start.settings before now so_far done (watch_of start so_far.scans) so adds.more Holds holds)
 
   -- ---- all that stands
 
@@ -215,15 +202,16 @@ module _ {T W L D : Type 0} (words : Words T W L D) (start : Began D) (moments :
         by_case (Some before) (Some now) None done scans some = absurd scans
         by_case (Some before) (Some now) (Some after) done scans some = scans.known
 
-    read_later : IfSome shown (λ now. AllByRecursion (IsLeftRead now) so_far.left) → IsSome start.shown → IfSome later (λ now. AllByRecursion (IsLeftRead now) so_far.left)
-    read_later read some = by_case start.shown shown later stands.files.shown on read some
+    holds_later : (Holds : Left → TailHistory → Type 0) → IfSome shown (λ now. AllByRecursion (HoldsWhereNoFault Holds now) so_far.left) → IsSome start.shown →
+        IfSome later (λ now. AllByRecursion (HoldsWhereNoFault Holds now) so_far.left)
+    holds_later Holds holds some = by_case start.shown shown later stands.files.shown on holds some
       where
         by_case : (before now after : Option FolderHistory) → HasShown start.settings before now (files_of so_far) → ScansOn start.settings now scan after →
-            IfSome now (λ folder. AllByRecursion (IsLeftRead folder) so_far.left) → IsSome before → IfSome after (λ folder. AllByRecursion (IsLeftRead folder) so_far.left)
-        by_case None now after done scans read some = absurd (let no : false ≡ true = some in cc)
-        by_case (Some before) None after done scans read some = absurd done
-        by_case (Some before) (Some now) None done scans read some = absurd scans
-        by_case (Some before) (Some now) (Some after) done scans read some = left_read before now after scans done read stands.files.left
+            IfSome now (λ folder. AllByRecursion (HoldsWhereNoFault Holds folder) so_far.left) → IsSome before → IfSome after (λ folder. AllByRecursion (HoldsWhereNoFault Holds folder) so_far.left)
+        by_case None now after done scans held some = absurd (let no : false ≡ true = some in cc)
+        by_case (Some before) None after done scans held some = absurd done
+        by_case (Some before) (Some now) None done scans held some = absurd scans
+        by_case (Some before) (Some now) (Some after) done scans held some = left_then before now after scans done Holds held stands.files.left
 
     turned : Pairs (AreTurnedIn words.tails (watch_of start scanned_too.scans) so_far.opened so_far.moments) so_far.lanes (lanings crew.lanes.items)
     turned = each_lane so_far.lanes (lanings crew.lanes.items) stands.files.turned
@@ -274,8 +262,17 @@ module _ {T W L D : Type 0} (words : Words T W L D) (start : Began D) (moments :
         reading = λ is. let was = stands.files.reading is in record { none_left = was.none_left; none_over = was.none_over };
         finished = stands.files.finished;
         over = stands.files.over;
-        read = λ yet some. let read = stands.files.read yet some in record { in_lanes = read.in_lanes; in_left = read_later read.in_left some };
+        read = λ yet some. let read = stands.files.read yet some in record {
+          in_lanes = read.in_lanes;
+          in_left = holds_later (λ (l : Left) (tail : TailHistory). ReadsBehind false l.turned.history.begin.base tail.looks) read.in_left some;
+        };
         answered = stands.files.answered;
+        following = λ follows. let were = stands.files.following follows in record {
+          none_over = were.none_over;
+          may = were.may;
+          in_lanes = were.in_lanes;
+          in_left = λ some. holds_later (λ (l : Left) (tail : TailHistory). IsAnswered l.turned.history) (were.in_left some) some;
+        };
         tell = stands.files.tell;
         left_tell = stands.files.left_tell;
         scans = scans_then start so_far.moments so_far.scans scan follows ends is_known stands.files.scans;

@@ -88,6 +88,7 @@ module _ {T W L D : Type 0} (words : Words T W L D) (start : Began D) (moments :
         over = stands.files.over;
         read = stands.files.read;
         answered = stands.files.answered;
+        following = stands.files.following;
         tell = stands.files.tell;
         left_tell = stands.files.left_tell;
         scans = scans_on start so_far.moments given.more so_far.scans stands.files.scans;

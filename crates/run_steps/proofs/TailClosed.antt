@@ -1,8 +1,7 @@
 -- Tails that are closed keep what stands of a run: their files are left, with what the tails told.
-use Rattle.std.proofs.Common.{◌≡◌, ◌≢◌, ◌⊎◌, inl, inr, ⊎_elim, ℕ, zero, suc, ◌+◌, ◌≤◌, ◌<◌, ◌^◌, ◌-◌, false, drop, List, [], ◌∷◌, ◌++◌, Contains, length, length-append, map, append_assoc, Option, Some, None, IsSome, IfSome, refl, sym, ap, subst, ◌∙◌, arith}
+use Rattle.std.proofs.Common.{◌≡◌, ◌≢◌, ◌⊎◌, inl, inr, ⊎_elim, ℕ, suc, ◌+◌, ◌≤◌, ◌<◌, ◌^◌, ◌-◌, false, drop, List, [], ◌∷◌, ◌++◌, Contains, length, length-append, map, append_assoc, Option, Some, None, IsSome, IfSome, refl, sym, ap, subst, ◌∙◌, arith}
 use Rattle.std.proofs.lemmas.List.{map-append}
 use Rattle.std.proofs.lemmas.List.Elements.{Contains-append_left, Contains-append_right}
-use Rattle.std.specs.Prelude.{slice_get}
 use Rattle.std.specs.List.{AllByRecursion, flat_map}
 use Rattle.accounts.specs.FollowedFile.{MayReopenAt}
 use Rattle.accounts.specs.Once.{AreOnce}
@@ -19,6 +18,7 @@ use Rattle.accounts.proofs.Often.{often_back, often_contains, often_then, once_a
 use Rattle.accounts.proofs.Orderly.{member_is}
 use Rattle.harvester.specs.HasTold.{begin_of}
 use Rattle.harvester.specs.declared.harvester.Harvester.{Harvester}
+use Rattle.harvester.specs.declared.stage.Stage.TheVariants as stage
 use Rattle.kept_rows.specs.Scans.{AreDistinct}
 use Rattle.kept_rows.specs.Trace.{closing_in}
 use Rattle.outside.specs.Folders.{Closed, Event, FolderHistory}
@@ -42,30 +42,33 @@ use Rattle.wire_base.specs.declared.numbers.Slot.{Slot}
 use Rattle.run_steps.specs.Began.{Began}
 use Rattle.run_steps.specs.Begun.{AreSlotsFrom}
 use Rattle.run_steps.specs.Earlier.{IsEarlierSo}
-use Rattle.run_steps.specs.ClosesTail.{ClosesTail, ClosesTails, LetsGoAt, Readers}
+use Rattle.run_steps.specs.ClosesTail.{ClosesTail, ClosesTails, IsResting, LetsGoAt, Readers}
 use Rattle.run_steps.specs.Growing.{IsGrownFrom}
-use Rattle.run_steps.specs.LastEpoch.{AreToldInEpochs, HasAnswered, HaveOneOver, IsAnswered, IsLastOver}
+use Rattle.run_steps.specs.LastEpoch.{AreToldInEpochs, HasAnswered, HasAnsweredWhereNoFault, HaveOneOver, IsAnswered, IsLastOver}
 use Rattle.run_steps.specs.Looking.{HasLooked, SomeHasLooked}
 use Rattle.run_steps.specs.Releasing.{closing_of, with_events}
 use Rattle.run_steps.specs.ReadBehind.{ReadsBehind, ReadsWhereNoFault}
-use Rattle.run_steps.specs.RunState.{Finished, Halted, Leaving, OutOfEpochs, Phase, Reading}
+use Rattle.run_steps.specs.RunState.{Finished, Following, Halted, HaltedFollowing, Leaving, OutOfEpochs, Phase, Reading}
 use Rattle.told_scans.specs.OnlyAsked.{IsNoListing, WasClosedWith, WasOnlyAsked}
 use Rattle.told_scans.proofs.ToldScans.{nothing_appended}
 use Rattle.run_steps.specs.LaterScans.{told_in}
 use Rattle.told_scans.proofs.ScansPlaced.{between_on}
 use Rattle.run_steps.specs.Shown.{HasDone, HasShown, IsStillOpen, WasClosedAs, WasOpenedSince, openings_of}
 use Rattle.run_steps.specs.SoFar.{Earlier, Left, SoFar, all_told, books_of, files_in, files_of, notes_of, opened_before, openings_within, told_before}
-use Rattle.run_steps.specs.Stands.{AreAnswered, AreEachOnce, Books, BooksNow, Files, FilesNow, HaveGiven, IsLeftRead, IsLeftSo, MayTell, ReadsYet, watch_of}
-use Rattle.run_steps.proofs.AreRead.{read_now, read_still}
+use Rattle.run_steps.specs.Stands.{AreAnswered, AreEachOnce, Books, BooksNow, Files, FilesNow, HaveGiven, HoldsWhereNoFault, IsFollowing, IsLeftRead, IsLeftSo, MayTell, ReadsYet, watch_of}
+use Rattle.run_steps.proofs.AreRead.{read_now}
 use Rattle.run_steps.proofs.Admitting.{booked_by, often_mapped, placed_by, spans_often}
 use Rattle.run_steps.proofs.Causing.{some_parted}
 use Rattle.run_steps.proofs.Closing.{closed_as_it_was, closed_now, closed_still, closes_its, closes_no_other, open_still}
 use Rattle.run_steps.proofs.First.{got_within}
 use Rattle.run_steps.proofs.Growing.{grown_by_nothing, grown_by_two, grown_closing}
+use Rattle.run_steps.proofs.FollowedFiles.{answered_resting}
 use Rattle.run_steps.proofs.Grounds.{all_backed}
 use Rattle.run_steps.proofs.InEpochs.{told_in_epochs}
 use Rattle.run_steps.proofs.LastOver.{some_behind, some_first}
+use Rattle.run_steps.proofs.LeftStill.{left_still}
 use Rattle.run_steps.proofs.LessOne.{all_in, each_in, less_in, often_in, one_in, some_in}
+use Rattle.run_steps.proofs.ListParts.{got_first, got_in, parts_of}
 use Rattle.run_steps.proofs.LettingGo.{StandsFor, each_kept, notes_kept, one_was, parcels_kept, passes_kept, some_kept, spans_kept, stands_for}
 
 -- ---- slots, each once
@@ -105,27 +108,6 @@ one_opened (first ∷ opened) one other apart there also same =
     by_case (inr x) (inl y) later =
         absurd (apart.0 (subst (λ (n : ℕ). Contains (openings_of opened) n) (sym (ap (λ (o : Opened). o.opening) y ∙ sym same)) (mapped_there (λ (o : Opened). o.opening) opened one x)))
     by_case (inr x) (inr y) later = later x y
-
--- ---- lists
-
-parts_of : {A : Type 0} (P : A → Type 0) (xs ys : List A) → AllByRecursion P (xs ++ ys) → AllByRecursion P xs × AllByRecursion P ys
-parts_of P [] ys each = (tt, each)
-parts_of P (x ∷ xs) ys each = let rest = parts_of P xs ys each.1 in ((each.0, rest.0), rest.1)
-
-got_first : (events more : List Event) (k : ℕ) (event : Event) → slice_get events k ≡ Some event → slice_get (events ++ more) k ≡ Some event
-got_first [] more k event is = absurd cc
-got_first (e ∷ events) more zero event is = is
-got_first (e ∷ events) more (suc k) event is = got_first events more k event is
-
-got_in : (events more : List Event) (k : ℕ) (event : Event) → slice_get (events ++ more) k ≡ Some event → (slice_get events k ≡ Some event) ⊎ Contains more event
-got_in [] more k event is = inr (there more k is)
-  where
-    there : (l : List Event) (n : ℕ) → slice_get l n ≡ Some event → Contains l event
-    there [] n got = absurd cc
-    there (e ∷ l) zero got = let here : e ≡ event = cc in subst (λ x. Contains (e ∷ l) x) here (first_there e l)
-    there (e ∷ l) (suc n) got = later_there e event l (there l n got)
-got_in (e ∷ events) more zero event is = inl is
-got_in (e ∷ events) more (suc k) event is = got_in events more k event is
 
 -- ---- what stands of files and books, in a phase in which tails may be closed
 
@@ -238,6 +220,8 @@ module _ {T W L D : Type 0} (words : Words T W L D) (start : Began D) (moments :
       over Finished is = tt
       over Leaving is = tt
       over Halted is = tt
+      over Following is = tt
+      over HaltedFollowing is = tt
       over (OutOfEpochs slot) is = some_left (IsLastOver slot) is
 
       looked_still : SomeLooked so_far old → SomeLooked after new
@@ -362,33 +346,20 @@ module _ {T W L D : Type 0} (words : Words T W L D) (start : Began D) (moments :
           }
 
         -- those that were closed before, and this one
-        left_read_in : IfSome told (λ (tail : TailHistory). faults ≡ 0 → ReadsBehind false file.history.begin.base tail.looks) → AllByRecursion (IsLeftRead now) so_far.left →
-            AllByRecursion (IsLeftRead (then_told told)) (so_far.left ++ left_one ∷ [])
-        left_read_in reads_so read =
-            each_last (IsLeftRead (then_told told)) so_far.left left_one
-            (each_member (IsLeftRead (then_told told)) so_far.left (λ (l : Left) there. still l there l.told refl (member_is (IsLeftRead now) so_far.left l read there)))
-            (now_read told refl its.is.is_told.tail reads_so)
+        left_in : (Holds : Left → TailHistory → Type 0) → IfSome told (λ (tail : TailHistory). faults ≡ 0 → Holds left_one tail) → AllByRecursion (HoldsWhereNoFault Holds now) so_far.left →
+            AllByRecursion (HoldsWhereNoFault Holds (then_told told)) (so_far.left ++ left_one ∷ [])
+        left_in Holds holds_it holds =
+            each_last (HoldsWhereNoFault Holds (then_told told)) so_far.left left_one
+            (left_still start.settings first now so_far done watch reads.files.left (events told) Holds holds) (now_holds told refl its.is.is_told.tail holds_it)
           where
-            still : (l : Left) → Contains so_far.left l → (o : Option TailHistory) → l.told ≡ o →
-                IfSome o (λ tail. closing_in tail.opening (drop (suc tail.opening) now.events) ≡ Some (record { looks = tail.looks; faults = 0 }) → ReadsBehind false l.turned.history.begin.base tail.looks) →
-                IfSome o (λ tail. closing_in tail.opening (drop (suc tail.opening) (then_told told).events) ≡ Some (record { looks = tail.looks; faults = 0 }) → ReadsBehind false l.turned.history.begin.base tail.looks)
-            still l there None is reads_l = tt
-            still l there (Some tail) is reads_l =
-                let of = member_is (IsLeftSo watch so_far.opened so_far.moments) so_far.left l reads.files.left there in
-                let tail_is : IsTailOf of.file tail = subst (λ (o : Option TailHistory). IfSome o (IsTailOf of.file)) is of.is_told.tail in
-                let below : tail.opening < length now.events = subst (λ (n : ℕ). n < length now.events) (sym tail_is.opening) (stands_within of.file of.among) in
-                read_still now (events told) l.turned.history.begin.base tail below
-                (subst (λ (o : Option TailHistory). IfSome o (λ tail. WasClosedWith now tail.opening tail.looks)) is
-                (member_is (λ (l : Left). IfSome l.told (λ tail. WasClosedWith now tail.opening tail.looks)) so_far.left l done.closed there)) reads_l
-
-            now_read : (o : Option TailHistory) → told ≡ o → IfSome o (IsTailOf its.is.opened) → IfSome o (λ (tail : TailHistory). faults ≡ 0 → ReadsBehind false file.history.begin.base tail.looks) →
-                IfSome o (λ tail. closing_in tail.opening (drop (suc tail.opening) (then_told told).events) ≡ Some (record { looks = tail.looks; faults = 0 }) → ReadsBehind false file.history.begin.base tail.looks)
-            now_read None is of reads_it = tt
-            now_read (Some tail) is of reads_it =
+            now_holds : (o : Option TailHistory) → told ≡ o → IfSome o (IsTailOf its.is.opened) → IfSome o (λ (tail : TailHistory). faults ≡ 0 → Holds left_one tail) →
+                IfSome o (λ tail. closing_in tail.opening (drop (suc tail.opening) (then_told told).events) ≡ Some (record { looks = tail.looks; faults = 0 }) → Holds left_one tail)
+            now_holds None is of holds_one = tt
+            now_holds (Some tail) is of holds_one =
                 let below : tail.opening < length now.events = subst (λ (n : ℕ). n < length now.events) (sym of.opening) (stands_within its.is.opened its.is.of_files) in
                 let still_open : IsStillOpen now tail.opening = subst (IsStillOpen now) (sym of.opening) (done.still_open its.is.opened its.is.of_files file_turned) in
-                read_now now (events told) file.history.begin.base tail below faults still_open
-                (subst (λ (o : Option TailHistory). closing_in tail.opening (events o) ≡ Some (record { looks = tail.looks; faults = faults })) (sym is) (closes_its tail.opening tail.looks faults)) reads_it
+                read_now now (events told) (Holds left_one tail) tail below faults still_open
+                (subst (λ (o : Option TailHistory). closing_in tail.opening (events o) ≡ Some (record { looks = tail.looks; faults = faults })) (sym is) (closes_its tail.opening tail.looks faults)) holds_one
 
       has_shown : HasShown start.settings start.shown new.folder.told (files_of after)
       has_shown = by_case start.shown old.folder.told new.folder.told closes.closes.told reads.files.shown
@@ -398,21 +369,24 @@ module _ {T W L D : Type 0} (words : Words T W L D) (start : Began D) (moments :
           by_case (Some first) None then is shown = absurd shown
           by_case (Some first) (Some now) then is shown = subst (λ (o : Option FolderHistory). HasShown start.settings (Some first) o (files_of after)) (sym is) (has_done (words.tails.faults one.tail) first now shown told its.is.is_told.tail refl)
 
-      -- behind each look at its length it was read, if it counted no fault
-      its_read : IfSome told (λ (tail : TailHistory). words.tails.faults one.tail ≡ 0 → ReadsBehind false file.history.begin.base tail.looks) → ReadsYet phase → IsSome start.shown →
-          IfSome new.folder.told (λ folder. AllByRecursion (IsLeftRead folder) (so_far.left ++ left_one ∷ []))
-      its_read reads_so yet some = by_case start.shown old.folder.told new.folder.told closes.closes.told reads.files.shown some (reads.files.read yet some).in_left
+      -- this holds of each that counted no fault
+      left_then : (Holds : Left → TailHistory → Type 0) → IfSome told (λ (tail : TailHistory). words.tails.faults one.tail ≡ 0 → Holds left_one tail) → IsSome start.shown →
+          IfSome old.folder.told (λ folder. AllByRecursion (HoldsWhereNoFault Holds folder) so_far.left) →
+          IfSome new.folder.told (λ folder. AllByRecursion (HoldsWhereNoFault Holds folder) (so_far.left ++ left_one ∷ []))
+      left_then Holds holds_it some holds = by_case start.shown old.folder.told new.folder.told closes.closes.told reads.files.shown some holds
         where
           by_case : (first now then : Option FolderHistory) → then ≡ with_events (closing_of told (words.tails.faults one.tail)) now → HasShown start.settings first now (files_of so_far) → IsSome first →
-              IfSome now (λ folder. AllByRecursion (IsLeftRead folder) so_far.left) → IfSome then (λ folder. AllByRecursion (IsLeftRead folder) (so_far.left ++ left_one ∷ []))
-          by_case None now then is shown some read = absurd cc
-          by_case (Some first) None then is shown some read = absurd shown
-          by_case (Some first) (Some now) then is shown some read =
-              subst (λ (o : Option FolderHistory). IfSome o (λ folder. AllByRecursion (IsLeftRead folder) (so_far.left ++ left_one ∷ []))) (sym is)
-              (left_read_in (words.tails.faults one.tail) first now shown reads_so read)
+              IfSome now (λ folder. AllByRecursion (HoldsWhereNoFault Holds folder) so_far.left) → IfSome then (λ folder. AllByRecursion (HoldsWhereNoFault Holds folder) (so_far.left ++ left_one ∷ []))
+          by_case None now then is shown some held = absurd cc
+          by_case (Some first) None then is shown some held = absurd shown
+          by_case (Some first) (Some now) then is shown some held =
+              subst (λ (o : Option FolderHistory). IfSome o (λ folder. AllByRecursion (HoldsWhereNoFault Holds folder) (so_far.left ++ left_one ∷ []))) (sym is)
+              (left_in (words.tails.faults one.tail) first now shown Holds holds_it held)
 
+      -- behind each look at its length it was read, if it counted no fault
       left_read : ReadsYet phase → IsSome start.shown → IfSome new.folder.told (λ folder. AllByRecursion (IsLeftRead folder) (so_far.left ++ left_one ∷ []))
-      left_read yet some = its_read (by_told told refl) yet some
+      left_read yet some =
+          left_then (λ (l : Left) (tail : TailHistory). ReadsBehind false l.turned.history.begin.base tail.looks) (by_told told refl) some (reads.files.read yet some).in_left
         where
           was : ReadsWhereNoFault words.tails.told words.tails.faults one
           was = one_was one old.lanes new.lanes go (ReadsWhereNoFault words.tails.told words.tails.faults) (reads.files.read yet some).in_lanes
@@ -422,6 +396,26 @@ module _ {T W L D : Type 0} (words : Words T W L D) (start : Began D) (moments :
           by_told (Some tail) is = λ none.
               subst (λ (b : Begin). ReadsBehind false b.base tail.looks) its.is.has_told.held.holds.follows.begin
               (subst (λ (o : Option TailHistory). IfSome o (λ (t : TailHistory). ReadsBehind false (begin_of one).base t.looks)) is (was none))
+
+      -- a run that follows its files closes it where it may be opened again, until it is stopped
+      followed : (phase ≡ Following → IsResting one) → IsFollowing words.tails start.shown (files_at old) so_far.left → IsFollowing words.tails start.shown (files_at new) (so_far.left ++ left_one ∷ [])
+      followed rests were = record {
+        none_over = each_kept one old.lanes new.lanes go (λ (h : Harvester T). h.reader.stage ≢ stage.Over) were.none_over;
+        may = λ is. each_last (λ (l : Left). IsAnswered l.turned.history) so_far.left left_one (were.may is) (record {
+          answered = answered_resting words.tails watch so_far.opened so_far.moments file one its.is
+              (one_was one old.lanes new.lanes go (λ (h : Harvester T). h.reader.stage ≢ stage.Over) were.none_over) (rests is);
+          epoch = in_epoch;
+        });
+        in_lanes = λ some. each_kept one old.lanes new.lanes go (HasAnsweredWhereNoFault words.tails.faults) (were.in_lanes some);
+        in_left = λ some. left_then (λ (l : Left) (tail : TailHistory). IsAnswered l.turned.history) (by_told told some) some (were.in_left some);
+      }
+        where
+          by_told : (o : Option TailHistory) → IsSome start.shown → IfSome o (λ (tail : TailHistory). words.tails.faults one.tail ≡ 0 → IsAnswered file.history)
+          by_told None some = tt
+          by_told (Some tail) some = λ none. record {
+            answered = subst MayReopenAt its.is.has_told.held.holds.follows.stage (one_was one old.lanes new.lanes go (HasAnsweredWhereNoFault words.tails.faults) (were.in_lanes some) none);
+            epoch = in_epoch;
+          }
 
       -- each fall of its length was answered, if it was so as it was turned
       answered : MayTell phase → IsSome start.shown → AreAnswered new.lanes (so_far.left ++ left_one ∷ [])
@@ -455,8 +449,8 @@ module _ {T W L D : Type 0} (words : Words T W L D) (start : Began D) (moments :
       placed : ArePlaced so_far.told new.lanes carriers so_far.queued got so_far.boxed
       placed = placed_by old.lanes new.lanes (parcels_kept one old.lanes new.lanes go) (notes_kept one old.lanes new.lanes go) so_far.told carriers so_far.queued got so_far.boxed reads.books.placed
 
-      reads_without : Reads after new
-      reads_without = record {
+      reads_without : (phase ≡ Following → IsResting one) → Reads after new
+      reads_without rests = record {
         files = record {
           opened = reads.files.opened;
           ruled = reads.files.ruled;
@@ -473,6 +467,7 @@ module _ {T W L D : Type 0} (words : Words T W L D) (start : Began D) (moments :
             in_left = left_read yet some;
           };
           answered = answered;
+          following = λ follows. followed rests (reads.files.following follows);
           tell = λ some. each_kept one old.lanes new.lanes go (λ (h : Harvester T). IsSome (words.tails.told h.tail)) (reads.files.tell some);
           left_tell = λ some. each_last (λ (l : Left). IsSome l.told) so_far.left left_one (reads.files.left_tell some)
               (one_was one old.lanes new.lanes go (λ (h : Harvester T). IsSome (words.tails.told h.tail)) (reads.files.tell some));
@@ -492,9 +487,12 @@ module _ {T W L D : Type 0} (words : Words T W L D) (start : Began D) (moments :
       }
 
     -- one behind the other
-    pub reads_on : (closed : List (Harvester T)) (so_far : SoFar) (old new : Readers T) → ClosesTails words.tails closed old new → Reads so_far old → ReadsOn so_far old new
-    reads_on [] so_far old new same reads = record { later = so_far; grown = grown_by_nothing so_far; reads = subst (Reads so_far) (sym same) reads; same_notes = refl; looked = λ some. subst (SomeLooked so_far) (sym same) some }
-    reads_on (one ∷ more) so_far old new closes reads =
-        let first = reads_without so_far one old closes.0 closes.1 reads in
-        let rest = reads_on more (after so_far one old closes.0 closes.1 reads) closes.0 new closes.2 first in
-        record { later = rest.later; grown = grown_by_two so_far (after so_far one old closes.0 closes.1 reads) rest.later (grown_closing so_far _ _) rest.grown; reads = rest.reads; same_notes = rest.same_notes; looked = λ some. rest.looked (looked_still so_far one old closes.0 closes.1 reads some) }
+    pub reads_on : (closed : List (Harvester T)) (so_far : SoFar) (old new : Readers T) → ClosesTails words.tails closed old new →
+        AllByRecursion (λ (one : Harvester T). phase ≡ Following → IsResting one) closed → Reads so_far old → ReadsOn so_far old new
+    reads_on [] so_far old new same rest reads =
+        record { later = so_far; grown = grown_by_nothing so_far; reads = subst (Reads so_far) (sym same) reads; same_notes = refl; looked = λ some. subst (SomeLooked so_far) (sym same) some }
+    reads_on (one ∷ more) so_far old new closes rest reads =
+        let first = reads_without so_far one old closes.0 closes.1 reads rest.0 in
+        let next = after so_far one old closes.0 closes.1 reads in
+        let on = reads_on more next closes.0 new closes.2 rest.1 first in
+        record { later = on.later; grown = grown_by_two so_far next on.later (grown_closing so_far _ _) on.grown; reads = on.reads; same_notes = on.same_notes; looked = λ some. on.looked (looked_still so_far one old closes.0 closes.1 reads some) }

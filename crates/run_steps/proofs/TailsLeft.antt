@@ -1,5 +1,5 @@
 -- A run that reads, or has read, may leave: what stands of it stands in the phase behind that, and as all its tails are closed.
-use Rattle.std.proofs.Common.{◌≡◌, ◌≢◌, ℕ, List, Option, IsSome, refl, sym, subst}
+use Rattle.std.proofs.Common.{◌≡◌, ◌≢◌, ℕ, List, [], ◌∷◌, Option, IsSome, refl, sym, subst}
 use Rattle.std.specs.Prelude.{Vec}
 use Rattle.std.specs.declared.alloc.Global.{Global}
 use Rattle.std.specs.List.{AllByRecursion}
@@ -14,14 +14,14 @@ use Rattle.rounds.specs.declared.crew.Crew.{Crew}
 use Rattle.rounds.specs.declared.storing.Storing.{Storing}
 use Rattle.settle_box.specs.Senders.{notes}
 use Rattle.run_steps.specs.Began.{Began}
-use Rattle.run_steps.specs.ClosesTail.{ClosesTails, Readers}
+use Rattle.run_steps.specs.ClosesTail.{ClosesTails, IsResting, Readers}
 use Rattle.run_steps.specs.FolderSeen.{FolderSeen}
 use Rattle.run_steps.specs.Growing.{StandsGrown}
 use Rattle.run_steps.specs.LastEpoch.{HaveOneOver}
 use Rattle.run_steps.specs.Onward.{Onward, RunRules}
-use Rattle.run_steps.specs.RunState.{Finished, Halted, Leaving, OutOfEpochs, Phase, Reading, RunState, phase_left, within}
+use Rattle.run_steps.specs.RunState.{Finished, Following, Halted, HaltedFollowing, Leaving, OutOfEpochs, Phase, Reading, RunState, phase_left, within}
 use Rattle.run_steps.specs.SoFar.{FilesSoFar, SoFar, books_of, files_of, files_within}
-use Rattle.run_steps.specs.Stands.{Books, Files, FilesNow, MayTell, Notes, ReadsYet, Stands}
+use Rattle.run_steps.specs.Stands.{Books, Files, FilesNow, Follows, IsFollowing, MayTell, Notes, ReadsYet, Stands}
 use Rattle.run_steps.proofs.Growing.{grown_by_nothing, grown_by_two}
 use Rattle.run_steps.proofs.TailClosed.{books_at, files_at, reads_on}
 
@@ -33,6 +33,22 @@ left_not_reading Halted is = let no : Halted ≡ Reading = is in cc
 left_not_reading Leaving is = let no : Leaving ≡ Reading = is in cc
 left_not_reading Finished is = let no : Finished ≡ Reading = is in cc
 left_not_reading (OutOfEpochs slot) is = let no : OutOfEpochs slot ≡ Reading = is in cc
+left_not_reading Following is = let no : HaltedFollowing ≡ Reading = is in cc
+left_not_reading HaltedFollowing is = let no : HaltedFollowing ≡ Reading = is in cc
+
+left_not_following : (phase : Phase) → phase_left phase ≢ Following
+left_not_following Reading is = let no : Halted ≡ Following = is in cc
+left_not_following Halted is = let no : Halted ≡ Following = is in cc
+left_not_following Leaving is = let no : Leaving ≡ Following = is in cc
+left_not_following Finished is = let no : Finished ≡ Following = is in cc
+left_not_following (OutOfEpochs slot) is = let no : OutOfEpochs slot ≡ Following = is in cc
+left_not_following Following is = let no : HaltedFollowing ≡ Following = is in cc
+left_not_following HaltedFollowing is = let no : HaltedFollowing ≡ Following = is in cc
+
+-- so any of them may be closed
+pub any_left : {T : Type 0} (phase : Phase) (closed : List (Harvester T)) → AllByRecursion (λ (one : Harvester T). phase_left phase ≡ Following → IsResting one) closed
+any_left phase [] = tt
+any_left phase (one ∷ closed) = ((λ is. absurd (left_not_following phase is)), any_left phase closed)
 
 module _ {T W L D : Type 0} (words : Words T W L D) where
   pub files_left : (start : Began D) (now : FilesNow T) (so_far : FilesSoFar) → Files words.tails start now so_far → Files words.tails start (record now { phase = phase_left now.phase }) so_far
@@ -49,6 +65,7 @@ module _ {T W L D : Type 0} (words : Words T W L D) where
     over = over now.phase files.over;
     read = λ is some. files.read (yet now.phase is) some;
     answered = λ is some. files.answered (may_tell now.phase is) some;
+    following = λ is. followed (files.following (follows now.phase is));
     tell = files.tell;
     left_tell = files.left_tell;
     shown = files.shown;
@@ -62,6 +79,8 @@ module _ {T W L D : Type 0} (words : Words T W L D) where
       finished Leaving was is some = absurd (let no : Leaving ≡ Finished = is in cc)
       finished Finished was is some = files.finished was some
       finished (OutOfEpochs slot) was is some = absurd (let no : OutOfEpochs slot ≡ Finished = is in cc)
+      finished Following was is some = absurd (let no : HaltedFollowing ≡ Finished = is in cc)
+      finished HaltedFollowing was is some = absurd (let no : HaltedFollowing ≡ Finished = is in cc)
 
       over : (phase : Phase) → HaveOneOver phase (files_within so_far) → HaveOneOver (phase_left phase) (files_within so_far)
       over Reading is = tt
@@ -69,6 +88,8 @@ module _ {T W L D : Type 0} (words : Words T W L D) where
       over Leaving is = tt
       over Halted is = tt
       over (OutOfEpochs slot) is = is
+      over Following is = tt
+      over HaltedFollowing is = tt
 
       yet : (phase : Phase) → ReadsYet (phase_left phase) → ReadsYet phase
       yet Reading is = tt
@@ -76,6 +97,8 @@ module _ {T W L D : Type 0} (words : Words T W L D) where
       yet Finished is = absurd is
       yet Leaving is = absurd is
       yet (OutOfEpochs slot) is = absurd is
+      yet Following is = tt
+      yet HaltedFollowing is = tt
 
       may_tell : (phase : Phase) → MayTell (phase_left phase) → MayTell phase
       may_tell Reading is = tt
@@ -83,6 +106,25 @@ module _ {T W L D : Type 0} (words : Words T W L D) where
       may_tell Finished is = tt
       may_tell Leaving is = absurd is
       may_tell (OutOfEpochs slot) is = absurd is
+      may_tell Following is = absurd is
+      may_tell HaltedFollowing is = absurd is
+
+      follows : (phase : Phase) → Follows (phase_left phase) → Follows phase
+      follows Reading is = absurd is
+      follows Halted is = absurd is
+      follows Finished is = absurd is
+      follows Leaving is = absurd is
+      follows (OutOfEpochs slot) is = absurd is
+      follows Following is = tt
+      follows HaltedFollowing is = tt
+
+      followed : IsFollowing words.tails start.shown now so_far.left → IsFollowing words.tails start.shown (record now { phase = phase_left now.phase }) so_far.left
+      followed were = record {
+        none_over = were.none_over;
+        may = λ is. absurd (left_not_following now.phase is);
+        in_lanes = were.in_lanes;
+        in_left = were.in_left;
+      }
 
   -- whatever the areas hold
   abbrev pub GoesOnStanding : RunState T W L D → RunState T W L D → Type 0
@@ -115,6 +157,7 @@ module _ {T W L D : Type 0} (words : Words T W L D) where
         over = tt;
         read = λ yet some. absurd yet;
         answered = λ may some. absurd may;
+        following = λ follows. absurd follows;
         tell = stands.files.tell;
         left_tell = stands.files.left_tell;
         shown = stands.files.shown;
@@ -142,6 +185,26 @@ module _ {T W L D : Type 0} (words : Words T W L D) where
     };
   }
 
+  -- of a run that follows its files, a tail was closed whose file is at rest or changed
+  pub resting_onward : (one : Harvester T) (old new : FolderSeen) (moments : Option (List ℕ)) (crew : Crew T W L) (lanes : Vec (Lane T) Global) (storing : Storing D) → IsResting one →
+      ClosesTails words.tails (one ∷ []) (record { folder = old; lanes = lanings crew.lanes.items }) (record { folder = new; lanes = lanings lanes.items }) →
+      GoesOnStanding (within old.told moments crew storing Following) (within new.told moments (record crew { lanes = lanes }) storing Following)
+  resting_onward one old new moments crew lanes storing rests closes start so_far stands =
+      let before : Readers T = record { folder = old; lanes = lanings crew.lanes.items } in
+      let after : Readers T = record { folder = new; lanes = lanings lanes.items } in
+      let on = reads_on words start moments crew.carriers.items (notes storing.keeper.now.pass.got) Following (λ is. let no : Following ≡ Reading = is in cc) (one ∷ []) so_far before after closes
+      ((λ is. rests), tt) (record { files = stands.files; books = stands.books }) in
+      record {
+        so_far = on.later;
+        grown = on.grown;
+        stands = record {
+          files = on.reads.files;
+          books = on.reads.books;
+          notes = subst (Notes start storing.keeper.now) (sym on.same_notes) stands.notes;
+          areas = stands.areas;
+        };
+      }
+
   -- tails of its were closed
   pub closing_onward : (closed : List (Harvester T)) (old new : FolderSeen) (moments : Option (List ℕ)) (crew : Crew T W L) (lanes : Vec (Lane T) Global) (storing : Storing D) (phase : Phase) →
       ClosesTails words.tails closed (record { folder = old; lanes = lanings crew.lanes.items }) (record { folder = new; lanes = lanings lanes.items }) →
@@ -149,7 +212,7 @@ module _ {T W L D : Type 0} (words : Words T W L D) where
   closing_onward closed old new moments crew lanes storing phase closes start so_far stands =
       let before : Readers T = record { folder = old; lanes = lanings crew.lanes.items } in
       let after : Readers T = record { folder = new; lanes = lanings lanes.items } in
-      let on = reads_on words start moments crew.carriers.items (notes storing.keeper.now.pass.got) (phase_left phase) (left_not_reading phase) closed so_far before after closes
+      let on = reads_on words start moments crew.carriers.items (notes storing.keeper.now.pass.got) (phase_left phase) (left_not_reading phase) closed so_far before after closes (any_left phase closed)
       (record { files = files_left start (files_at words start moments crew.carriers.items (notes storing.keeper.now.pass.got) phase before) (files_of so_far) stands.files; books = stands.books }) in
       record {
         so_far = on.later;

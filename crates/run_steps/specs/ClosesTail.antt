@@ -1,6 +1,7 @@
 -- The step that closes a tail (this project's profile): a lane lets one harvester go, whose tail the folder takes back. All other
 -- harvesters stay, and so do the passes, what lanes hold and what they count.
-use Rattle.std.specs.Prelude.{◌≡◌, ◌⊎◌, ℕ, ◌-◌, ◌≤◌, ◌||◌, Bool, false, All, IsSome, is_some, List, [], ◌∷◌, ◌++◌, length, Option, Some, None}
+use Rattle.std.specs.Prelude.{◌≡◌, ◌⊎◌, ℕ, ◌-◌, ◌≤◌, ◌||◌, Bool, false, All, IsSome, IsTrue, is_some, List, [], ◌∷◌, ◌++◌, length, Option, Some, None, slice_get}
+use Rattle.harvester.specs.HasTold.{IsChanged}
 use Rattle.harvester.specs.declared.harvester.Harvester.{Harvester}
 use Rattle.lanes.specs.Laning.{IsOfAnother, Laning, Releases, ReleasesAt}
 use Rattle.outside.specs.Folders.{Event}
@@ -40,10 +41,26 @@ pub record ClosesTail {T : Type 0} (tails : TailWords T) (one : Harvester T) (ol
   pub closes : Closes tails one.tail old.folder new.folder
   pub in_epoch : IsInEpoch tails one
 
+-- it is at rest where it was read to, or its file has another key or none
+abbrev pub IsResting : {T : Type 0} → Harvester T → Type 0
+IsResting harvester = IsTrue harvester.rests ⊎ IsChanged harvester
+
+-- so is the one of this seat
+pub record RestsAt {T : Type 0} (seat : ℕ) (harvesters : List (Harvester T)) : Type 0 where
+  pub one : Harvester T
+  pub is : slice_get harvesters seat ≡ Some one
+  pub rests : IsResting one
+
 -- these, one after another
 abbrev pub ClosesTails : {T : Type 0} → TailWords T → List (Harvester T) → Readers T → Readers T → Type 0
 ClosesTails tails [] old new = new ≡ old
 ClosesTails {T} tails (one ∷ more) old new = (mid : Readers T) × ClosesTail tails one old mid × ClosesTails tails more mid new
+
+-- one that is at rest, or whose file changed
+pub record ClosesResting {T : Type 0} (tails : TailWords T) (old new : Readers T) : Type 0 where
+  pub one : Harvester T
+  pub rests : IsResting one
+  pub closes : ClosesTail tails one old new
 
 -- one of them, and some in a row
 abbrev pub ClosesOne : {T : Type 0} → TailWords T → Readers T → Readers T → Type 0

@@ -24,7 +24,7 @@ use Rattle.rounds.specs.Words.{TailWords}
 use Rattle.wire_base.specs.declared.numbers.Slot.{Slot}
 use Rattle.wire_base.specs.declared.row.Row.{Row}
 use Rattle.run_steps.specs.BeginFor.{start_among}
-use Rattle.run_steps.specs.RunState.{Finished, Halted, Leaving, OutOfEpochs, Phase, Reading}
+use Rattle.run_steps.specs.RunState.{Finished, Following, Halted, HaltedFollowing, Leaving, OutOfEpochs, Phase, Reading}
 use Rattle.told_scans.specs.OnlyAsked.{WasClosedWith}
 
 -- ---- by what its turns reported
@@ -41,11 +41,17 @@ HaveOneOver Reading files = Unit {0}
 HaveOneOver Finished files = Unit {0}
 HaveOneOver Leaving files = Unit {0}
 HaveOneOver Halted files = Unit {0}
+HaveOneOver Following files = Unit {0}
+HaveOneOver HaltedFollowing files = Unit {0}
 HaveOneOver (OutOfEpochs slot) files = SomeOf (IsLastOver slot) files
 
 -- each fall of its length was answered, by the next epoch or by another key
 abbrev pub HasAnswered : {T : Type 0} → Harvester T → Type 0
 HasAnswered harvester = MayReopenAt (stage_of harvester.reader.stage)
+
+-- so it is if its tail counted no fault: a file of which a read failed may have to be asked for its key again
+abbrev pub HasAnsweredWhereNoFault : {T : Type 0} → (T → ℕ) → Harvester T → Type 0
+HasAnsweredWhereNoFault faults harvester = faults harvester.tail ≡ 0 → HasAnswered harvester
 
 -- so it is of one whose tail was closed, in an epoch that there is
 pub record IsAnswered (history : History) : Type 0 where

@@ -21,6 +21,7 @@ pub mod Ends
 pub mod FirstLook
 pub mod FolderSeen
 pub mod FollowedOrSkipped
+pub mod FollowingSteps
 pub mod Goes
 pub mod Growing
 pub mod HiddenRows

@@ -19,7 +19,7 @@ use Rattle.rounds.specs.declared.storing.Storing.{Storing}
 use Rattle.wire_base.specs.declared.numbers.Slot.{Slot}
 use Rattle.run_steps.specs.Met.{AreLeft}
 use Rattle.run_steps.specs.MetIn.{HasFailed, met_behind}
-use Rattle.run_steps.specs.RunState.{Finished, Leaving, OutOfEpochs, Phase, Reading}
+use Rattle.run_steps.specs.RunState.{Finished, Following, Leaving, OutOfEpochs, Phase, Reading}
 use Rattle.run_steps.specs.declared.context.System.{System}
 use Rattle.run_steps.specs.declared.met.Met.{Met}
 use Rattle.run_steps.specs.declared.met.Met.TheVariants.{DiskFault, Done, Epochs, FolderFault, NoMemory, NoNative, Stopped, Unreachable}
@@ -125,3 +125,15 @@ phase_reading true = Leaving
 abbrev pub phase_after : Bool → Option Met → Phase
 phase_after false met = phase_of met
 phase_after true met = Leaving
+
+-- the phase of a run that follows its files, after a round: no file's fault ends it
+abbrev pub phase_following : Option Met → Phase
+phase_following None = Following
+phase_following (Some Done) = Following
+phase_following (Some Stopped) = Following
+phase_following (Some NoMemory) = Leaving
+phase_following (Some DiskFault) = Leaving
+phase_following (Some FolderFault) = Following
+phase_following (Some (Unreachable worker)) = Leaving
+phase_following (Some (Epochs slot)) = OutOfEpochs slot
+phase_following (Some (NoNative slot)) = Leaving

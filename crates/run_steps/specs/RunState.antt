@@ -18,6 +18,10 @@ pub data Phase : Type 0 where
   OutOfEpochs : Slot → Phase
   -- the run was stopped while it read; tails may be closed
   Halted : Phase
+  -- files are turned, also after a read of them failed; between rounds tails may be closed of files that may be opened again, and files opened
+  Following : Phase
+  -- the run was stopped while it followed its files; tails may be closed
+  HaltedFollowing : Phase
 
 -- once tails are closed
 abbrev pub phase_left : Phase → Phase
@@ -26,6 +30,8 @@ phase_left Finished = Finished
 phase_left Leaving = Leaving
 phase_left (OutOfEpochs slot) = OutOfEpochs slot
 phase_left Halted = Halted
+phase_left Following = HaltedFollowing
+phase_left HaltedFollowing = HaltedFollowing
 
 pub record RunState (T W L D : Type 0) : Type 0 where
   pub shown : Option FolderHistory

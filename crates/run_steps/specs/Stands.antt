@@ -16,6 +16,7 @@ use Rattle.keeper.specs.Storing.{Stores}
 use Rattle.kept_rows.specs.Trace.{closing_in}
 use Rattle.lanes.specs.Laning.{Laning}
 use Rattle.outside.specs.Folders.{FolderHistory}
+use Rattle.outside.specs.Tails.{TailHistory}
 use Rattle.pass_sums.specs.Weight.{AsOften}
 use Rattle.rounds.specs.Books.{AreBooked, ArePlaced, Heard, Told, flat, held_notes, owed_notes}
 use Rattle.rounds.specs.Crewed.{lanings}
@@ -31,10 +32,10 @@ use Rattle.run_steps.specs.Began.{Began}
 use Rattle.run_steps.specs.Begun.{AreBeginNotes, AreSlotsFrom, IsKeyed, IsOpenedAsListed, IsRuled}
 use Rattle.run_steps.specs.Earlier.{AreEarlier}
 use Rattle.run_steps.specs.HiddenRows.{AreHiddenSoFar}
-use Rattle.run_steps.specs.LastEpoch.{AreToldInEpochs, HasAnswered, HaveOneOver, IsAnswered}
+use Rattle.run_steps.specs.LastEpoch.{AreToldInEpochs, HasAnswered, HasAnsweredWhereNoFault, HaveOneOver, IsAnswered}
 use Rattle.run_steps.specs.LaterScans.{AreLaterScans, LaterScan, WasMissed, WasNamed}
 use Rattle.run_steps.specs.ReadBehind.{ReadsBehind, ReadsWhereNoFault}
-use Rattle.run_steps.specs.RunState.{Finished, Halted, Leaving, OutOfEpochs, Phase, Reading, RunState}
+use Rattle.run_steps.specs.RunState.{Finished, Following, Halted, HaltedFollowing, Leaving, OutOfEpochs, Phase, Reading, RunState}
 use Rattle.run_steps.specs.Shown.{HasGiven, HasShown}
 use Rattle.run_steps.specs.SoFar.{BooksSoFar, FilesSoFar, Left, NotesSoFar, SoFar, books_of, files_of, files_within, first_opened, notes_of}
 
@@ -65,36 +66,62 @@ pub record AreEachOnce (opened : List Opened) (files : List Turned) : Type 0 whe
   pub rise : AreSlotsFrom 0 opened
   pub are : AsOften (map (λ turned. turned.slot) files) (map (λ one. one.begin.slot) opened)
 
+-- of none that is turned the last epoch is over
+abbrev pub NoneOver : {T : Type 0} → List (Laning T) → Type 0
+NoneOver lanes = AllByRecursion (λ lane. AllByRecursion (λ harvester. harvester.reader.stage ≢ Over) lane.harvesters) lanes
+
 -- while files are read, no tail was closed, and none is out of epochs
 pub record IsReading {T : Type 0} (lanes : List (Laning T)) (so_far : FilesSoFar) : Type 0 where
   pub none_left : so_far.left ≡ []
-  pub none_over : AllByRecursion (λ lane. AllByRecursion (λ harvester. harvester.reader.stage ≢ Over) lane.harvesters) lanes
+  pub none_over : NoneOver lanes
 
--- the run reads on, or was stopped as it did
+-- the run reads or follows its files, or was stopped as it did
 abbrev pub ReadsYet : Phase → Type 0
 ReadsYet Reading = Unit {0}
 ReadsYet Halted = Unit {0}
+ReadsYet Following = Unit {0}
+ReadsYet HaltedFollowing = Unit {0}
 ReadsYet Finished = ⊥
 ReadsYet Leaving = ⊥
 ReadsYet (OutOfEpochs slot) = ⊥
 
--- the tail was closed, and if it counted no fault then it was read after each look at its length
+-- the tail was closed, and if it counted no fault then this holds of it
+abbrev pub HoldsWhereNoFault : (Left → TailHistory → Type 0) → FolderHistory → Left → Type 0
+HoldsWhereNoFault Holds now one =
+    IfSome one.told (λ tail. closing_in tail.opening (drop (suc tail.opening) now.events) ≡ Some (record { looks = tail.looks; faults = 0 }) → Holds one tail)
+
+-- then it was read after each look at its length
 abbrev pub IsLeftRead : FolderHistory → Left → Type 0
-IsLeftRead now one = IfSome one.told (λ tail. closing_in tail.opening (drop (suc tail.opening) now.events) ≡ Some (record { looks = tail.looks; faults = 0 }) →
-    ReadsBehind false one.turned.history.begin.base tail.looks)
+IsLeftRead now one = HoldsWhereNoFault (λ closed tail. ReadsBehind false closed.turned.history.begin.base tail.looks) now one
+
+-- and each fall of its length was answered
+abbrev pub IsLeftAnswered : FolderHistory → Left → Type 0
+IsLeftAnswered now one = HoldsWhereNoFault (λ closed tail. IsAnswered closed.turned.history) now one
 
 -- so are those that are turned, and those that were closed
 pub record AreRead {T : Type 0} (tails : TailWords T) (shown : Option FolderHistory) (lanes : List (Laning T)) (left : List Left) : Type 0 where
   pub in_lanes : AllByRecursion (λ lane. AllByRecursion (ReadsWhereNoFault tails.told tails.faults) lane.harvesters) lanes
   pub in_left : IfSome shown (λ now. AllByRecursion (IsLeftRead now) left)
 
--- the run may give a report: it reads on, was stopped as it did, or read each file to its end
+-- the run may give a report as one that reads its files once: it reads on, was stopped as it did, or read each file to its end
 abbrev pub MayTell : Phase → Type 0
 MayTell Reading = Unit {0}
 MayTell Finished = Unit {0}
 MayTell Halted = Unit {0}
 MayTell Leaving = ⊥
 MayTell (OutOfEpochs slot) = ⊥
+MayTell Following = ⊥
+MayTell HaltedFollowing = ⊥
+
+-- it follows its files, or was stopped as it did
+abbrev pub Follows : Phase → Type 0
+Follows Following = Unit {0}
+Follows HaltedFollowing = Unit {0}
+Follows Reading = ⊥
+Follows Finished = ⊥
+Follows Leaving = ⊥
+Follows (OutOfEpochs slot) = ⊥
+Follows Halted = ⊥
 
 -- each fall of a file's length was answered: of those that are turned, and of those whose tails were closed
 pub record AreAnswered {T : Type 0} (lanes : List (Laning T)) (left : List Left) : Type 0 where
@@ -129,6 +156,15 @@ pub record FilesNow (T : Type 0) : Type 0 where
   pub lanes : List (Laning T)
   pub phase : Phase
 
+-- of a run that follows its files, and began with this known of its folder
+pub record IsFollowing {T : Type 0} (tails : TailWords T) (began : Option FolderHistory) (now : FilesNow T) (left : List Left) : Type 0 where
+  pub none_over : NoneOver now.lanes
+  -- until it is stopped, each file whose tail was closed may be opened again
+  pub may : now.phase ≡ Following → AllByRecursion (λ one. IsAnswered one.turned.history) left
+  -- each fall of a file's length was answered, if its tail counted no fault
+  pub in_lanes : IsSome began → AllByRecursion (λ lane. AllByRecursion (HasAnsweredWhereNoFault tails.faults) lane.harvesters) now.lanes
+  pub in_left : IsSome began → IfSome now.shown (λ folder. AllByRecursion (IsLeftAnswered folder) left)
+
 pub record Files {T D : Type 0} (tails : TailWords T) (start : Began D) (now : FilesNow T) (so_far : FilesSoFar) : Type 0 where
   pub opened : AllByRecursion (IsOpenedAsListed start.settings start.opening start.listed) (first_opened so_far.earlier so_far.opened)
   pub ruled : AllByRecursion (IsRuled start.settings) so_far.opened
@@ -142,6 +178,7 @@ pub record Files {T D : Type 0} (tails : TailWords T) (start : Began D) (now : F
   pub over : HaveOneOver now.phase (files_within so_far)
   pub read : ReadsYet now.phase → IsSome start.shown → AreRead tails now.shown now.lanes so_far.left
   pub answered : MayTell now.phase → IsSome start.shown → AreAnswered now.lanes so_far.left
+  pub following : Follows now.phase → IsFollowing tails start.shown now so_far.left
   -- if the folder is known, so are the tails
   pub tell : IsSome start.shown → AllByRecursion (TellIn tails) now.lanes
   pub left_tell : IsSome start.shown → AllByRecursion (λ (one : Left). IsSome one.told) so_far.left

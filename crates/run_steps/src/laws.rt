@@ -1,5 +1,6 @@
 ghost use Rattle.std.specs.Prelude.{◌≤◌, ℕ, IfSome, List};
 ghost use Rattle.run_steps.specs.ChangeSteps.{EndsAreChanges, RenamesAreChanges, StirsAreChanges, StirsAreSteps};
+ghost use Rattle.run_steps.specs.FollowingSteps.{BeginsToFollow, ClosingsAreSteps};
 ghost use Rattle.run_steps.specs.Goes.{step_words};
 ghost use Rattle.run_steps.specs.OpeningKeeps.{OpeningsAgainKeep};
 ghost use Rattle.run_steps.specs.ReopeningSteps.{OpeningsAgainAreSteps};
@@ -49,3 +50,12 @@ pub fn openings_again_are_steps<F: Folder, L: Link, W: Wire<Link = L>, D: Disk, 
 {
     disk_images_are_counted::<D>();
 }
+
+/// A run that reads its files may begin to follow them. While it follows them, it may close the tail of a file that is at rest, or that
+/// changed, between two rounds, and goes on to follow them. A law; it computes nothing.
+pub fn following_goes_on<F: Folder, L: Link, W: Wire<Link = L>, D: Disk, K: Clock, B: Bell>()
+    ensures begins { BeginsToFollow
+        (step_words F.Folder F.Tail.Tail L.Link W.Wire D.Disk K.Clock B.Bell) }
+    ensures closes { ClosingsAreSteps
+        (step_words F.Folder F.Tail.Tail L.Link W.Wire D.Disk K.Clock B.Bell) }
+{}

@@ -1,11 +1,11 @@
-ghost use Rattle.std.specs.Prelude.{◌≡◌, ◌+◌, ◌-◌, ◌<◌, ◌≤◌, [], ◌∷◌, All, Some, length, vec_capacity, vec_len};
+ghost use Rattle.std.specs.Prelude.{◌≡◌, ◌+◌, ◌-◌, ◌<◌, ◌≤◌, [], ◌∷◌, All, Some, false, length, true, vec_capacity, vec_len};
 ghost use Rattle.lanes.specs.Laning.{laning};
 ghost use Rattle.outside.specs.Counts.{added_counts};
 ghost use Rattle.outside.specs.Files.{NoneEarlier};
 ghost use Rattle.rounds.specs.Crewed.{lanings};
 ghost use Rattle.rounds.specs.WordsOf.{links_of, tails_of, wires_of};
 ghost use Rattle.run_steps.specs.CarriersEnd.{EndsCarriers, HasCarrierPasses, HasLanePasses, PutsWire};
-ghost use Rattle.run_steps.specs.ClosesTail.{ClosesFailed, ClosesOne, ClosesSome, LetsSlotGo, readers};
+ghost use Rattle.run_steps.specs.ClosesTail.{ClosesFailed, ClosesOne, ClosesResting, ClosesSome, LetsSlotGo, RestsAt, readers};
 ghost use Rattle.run_steps.specs.LastEpoch.{IsInEpoch};
 ghost use Rattle.run_steps.specs.Releasing.{HasNoHarvesters, closing_of, with_events};
 
@@ -51,6 +51,32 @@ pub fn close_tail<F: Folder>(folder: &mut F, lane: &mut Lane<F::Tail>, seat: usi
 {
     let harvester = lane.release_at(seat);
     release(folder, harvester);
+}
+
+/// Closes the tail of this seat if its file is at rest or changed, and releases its harvester; the lane's last one takes the seat. Whether
+/// it was closed. It takes no memory.
+pub fn close_resting<F: Folder>(folder: &mut F, lane: &mut Lane<F::Tail>, seat: usize) -> bool
+    requires seat { seat < length (laning lane.old).harvesters }
+    ensures closes { result ≡ true → ClosesResting (tails_of F.Tail.Tail)
+        (readers F.Folder folder.old (laning lane.old ∷ []))
+        (readers F.Folder folder.new (laning lane.new ∷ [])) }
+    ensures stays { result ≡ false → readers F.Folder folder.new (laning lane.new ∷ [])
+        ≡ readers F.Folder folder.old (laning lane.old ∷ []) }
+{
+    if !is_resting(lane, seat) {
+        return false;
+    }
+    let harvester = lane.release_at(seat);
+    release(folder, harvester);
+    true
+}
+
+fn is_resting<T: Tail>(lane: &Lane<T>, seat: usize) -> bool
+    requires seat { seat < length (laning lane.now).harvesters }
+    ensures { result ≡ true → RestsAt seat (laning lane.now).harvesters }
+{
+    let look = lane.look(seat);
+    look.changed || look.idle_since.is_some()
 }
 
 /// After a round: of each lane, closes the first file of which a read failed. Whether there was one. It takes no memory.

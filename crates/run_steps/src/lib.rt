@@ -39,9 +39,12 @@ pub use crew::{BOX_NOTES, Passes, crew_of};
 pub use follow::{PAUSE_MS, met_behind, met_in, pause_where_still};
 pub use hidden::{hide_begun, tell_hidden};
 pub use laws::{
-    changes_are_steps, disk_images_are_counted, openings_again_are_steps, scans_again_are_steps,
+    changes_are_steps, disk_images_are_counted, following_goes_on, openings_again_are_steps,
+    scans_again_are_steps,
 };
-pub use leave::{close_all, close_failed, close_slot, close_tail, end_crew, end_lanes};
+pub use leave::{
+    close_all, close_failed, close_resting, close_slot, close_tail, end_crew, end_lanes,
+};
 pub use met::Met;
 pub use opening::Opening;
 pub use reading::{follow_all, make_round, read_on, store_and_follow};

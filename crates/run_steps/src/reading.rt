@@ -8,10 +8,11 @@ ghost use Rattle.run_steps.specs.ClosesTail.{HasFailedFile, some_failed};
 ghost use Rattle.run_steps.specs.Goes.{Goes, step_words, stop_at};
 ghost use Rattle.run_steps.specs.Looking.{LooksByNow, LooksInRound, asked_at};
 ghost use Rattle.run_steps.specs.Met.{IsTelling};
-ghost use Rattle.run_steps.specs.MetBy.{HasFaults, HasMetFault, IsEndedBy, IsEndedRound, IsMetBy, SomeHarvester, WasStopped, phase_after, phase_met, phase_reading, since_of};
+ghost use Rattle.run_steps.specs.MetBy.{HasFaults, HasMetFault, IsEndedBy, IsEndedRound, IsMetBy, SomeHarvester, WasStopped, phase_after, phase_following, phase_met, phase_reading, since_of};
 ghost use Rattle.run_steps.specs.MetIn.{NoneFailed, read_by};
 ghost use Rattle.run_steps.specs.Questions.{AsksOn, count_given, questions_of};
 ghost use Rattle.run_steps.specs.Readiness.{IsReadyIn};
+ghost use Rattle.run_steps.specs.RunState.{Following};
 ghost use Rattle.run_steps.specs.declared.met.Met.TheVariants.{FolderFault, Stopped};
 
 use crate::context::{Context, System};
@@ -55,6 +56,11 @@ where
         result (stop_at (phase_reading faulty) crew.old storing.old system.old)
         (stop_at (phase_after (faulty || some_failed (lanings crew.new.lanes.items)) result)
         crew.new storing.new system.new) }
+    // A run that follows its files keeps those of which a read failed open, and tries them again in
+    // its next round.
+    ensures follows { Goes (step_words F.Folder F.Tail.Tail L.Link W.Wire D.Disk K.Clock B.Bell)
+        context.entry result (stop_at Following crew.old storing.old system.old)
+        (stop_at (phase_following result) crew.new storing.new system.new) }
     ensures met { IfSome result (IsMetBy (tails_of F.Tail.Tail) (disks_of D.Disk)
         context.entry.settings.now.output.attempts
         (since_of F.Folder storing.old system.old (crewing crew.new storing.new) system.new)) }

@@ -1,4 +1,4 @@
-use Rattle.std.proofs.Common.{ℕ, ◌+◌, ◌≤◌, ◌||◌, List, Option, refl, sym, subst, ◌∙◌, arith}
+use Rattle.std.proofs.Common.{inr, ℕ, ◌+◌, ◌≤◌, ◌||◌, false, List, Option, refl, sym, subst, ◌∙◌, arith}
 use Rattle.lanes.specs.declared.run.When.{When}
 use Rattle.outside.specs.Times.{GivesMoment}
 use Rattle.rounds.specs.Crewed.{lanings}
@@ -7,13 +7,14 @@ use Rattle.rounds.specs.WordsOf.{words_of}
 use Rattle.run_steps.specs.ClockOn.{MomentsGoOn}
 use Rattle.run_steps.specs.ClosesTail.{some_failed}
 use Rattle.run_steps.specs.FolderSeen.{seen_in}
-use Rattle.run_steps.specs.MetBy.{phase_after, phase_reading}
+use Rattle.run_steps.specs.MetBy.{phase_after, phase_following, phase_reading}
 use Rattle.run_steps.specs.Questions.{count_given}
+use Rattle.run_steps.specs.RunState.{Following}
 use Rattle.run_steps.proofs.CarriersGoOn.{carriers_by_round}
 use Rattle.run_steps.proofs.Clocks.{clock_by_moment}
 use Rattle.run_steps.proofs.FailingRounds.{fail_by_round, none_failed_in}
-use Rattle.run_steps.proofs.GoesOn.{none_failed_on}
-use Rattle.run_steps.proofs.MetBy.{all_done_after, each_met, faults_stay, never_fault, none_out_after, none_refused_after, reads_after, reads_before, round_failed, some_out_after, stored_well}
+use Rattle.run_steps.proofs.GoesOn.{keeps_at, none_failed_on}
+use Rattle.run_steps.proofs.MetBy.{all_done_after, each_met, faults_stay, follows_after, never_fault, never_read_once, none_followed_after, none_out_after, none_refused_after, out_followed, reads_after, reads_before, reads_followed, round_failed, some_out_after, stored_well}
 use Rattle.run_steps.proofs.Onward.{round_onward}
 use Rattle.run_steps.proofs.Questions.{given_once}
 use Rattle.run_steps.proofs.ReadersGo.{readers_stay}
@@ -93,6 +94,7 @@ returns-clause-goes g c faulty =
           (all_done_after all queue desk when old new round c.requires.ready keeps once attempts (faulty || late) met c.met_in-met.ensures)
           (some_out_after all queue desk when old new round c.requires.ready keeps once attempts (faulty || late) met c.met_in-met.ensures)
           (reads_after all queue desk when old new round c.requires.ready keeps once attempts (faulty || late) met c.met_in-met.ensures)
+          (λ follows. absurd (none_followed_after all queue desk when old new round c.requires.ready keeps once attempts (faulty || late) met follows))
           (none_refused_after all queue desk when old new round c.requires.ready keeps once attempts faulty late met c.met_in-met.ensures);
     }
 
@@ -114,3 +116,34 @@ returns-clause-gives_one_moment g c =
 
 pub returns-clause-asks_the_clock : goal.returns-clause-asks_the_clock
 returns-clause-asks_the_clock g c = c.pause_where_still.ensures.not_asked ∙ c.now-now.ensures.asked
+
+pub returns-clause-follows : goal.returns-clause-follows
+returns-clause-follows g c =
+    let all = words_of g.F.Tail.Tail g.L.Link g.W.Wire g.D.Disk in
+    let queue = c.args.context.outlets.queue.now in
+    let desk = c.args.context.outlets.desk.now in
+    let once = c.args.context.once in
+    let attempts = c.args.context.settings.now.output.attempts in
+    let when : When = record { now = c.now-now.result; last = c.args.context.once } in
+    let old = crewing c.args.crew.now c.args.storing.now in
+    let new = crewing c.round-round.new.self c.round-round.new.storing in
+    let round = c.round-round.result in
+    let met = c.met_in-met.result in
+    let is_met = c.met_in-met.ensures in
+    let before = g.K.Clock.moments c.args.system.now.clock.now in
+    let after = g.K.Clock.moments c.pause_where_still.new.clock in
+    let keeps = c.round-round.ensures.keeps in
+    let ready = c.requires.ready in
+    let given : GivesMoment before c.now-now.result.0 after =
+    subst (λ (o : Option (List ℕ)). GivesMoment before c.now-now.result.0 o) (sym c.pause_where_still.ensures.moments_kept) c.now-now.ensures.told in
+    record {
+      keeps = keeps_at Following (phase_following met) (returns-clause-goes g c false).keeps;
+      onward = round_onward all c.disk_images_are_counted.ensures.reads c.disk_images_are_counted.ensures.counts queue desk c.args.crew.now c.round-round.new.self
+          c.args.storing.now c.round-round.new.storing round (g.F.Folder.told c.args.system.now.folder.now) c.args.context.settings.now when before after Following (phase_following met) given
+          c.round-round.ensures.rounds keeps
+          (λ is. absurd (never_read_once met is)) (λ is. absurd (never_read_once met is)) (λ is. absurd (never_read_once met (inr is)))
+          (out_followed all queue desk when old new round ready keeps once attempts met is_met)
+          (reads_followed all queue desk when old new round ready keeps once attempts met is_met)
+          (follows_after all queue desk when old new round ready keeps once attempts met is_met)
+          (λ is. absurd (never_read_once met is));
+    }
