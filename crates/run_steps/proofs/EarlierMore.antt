@@ -100,7 +100,7 @@ module _ (watch : Watch) (opened : List Opened) (moments : List ℕ) (apart : Ar
   the_last other there is = same_item (λ (o : Opened). o.begin.slot.0) opened last other apart among there (sym is)
 
   ends_here : EndsBefore h next
-  ends_here = by_size (nat_le (told_to h.present) goes_on_from.size) goes_on_from.starts
+  ends_here = by_size (nat_le (told_to h.present) next.begin.size) goes_on_from.starts
     where
       by_size : (b : Bool) → ◌≡◌ {A = Start} (start_in next) (if b then record { epoch = h.present.epoch; base = told_to h.present } else record { epoch = h.present.epoch + 1; base = 0 }) → EndsBefore h next
       by_size true is = inr (sym (ap (λ (s : Start). s.epoch) is), let at = ap (λ (s : Start). s.base) is in omega (arith, at))

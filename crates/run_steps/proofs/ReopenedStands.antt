@@ -86,7 +86,7 @@ module _ {T W L D : Type 0} (words : Words T W L D) (reads : (disk : D) → IfSo
     (counts : (disk : D) (at : ℕ) (image : List ℕ) → at ≤ words.disks.moment disk → words.disks.images disk image → words.disks.images_since disk at image)
     (start : Began D) (moments : Option (List ℕ)) (a b : D) (now : ℕ) (shown : Option FolderHistory) (crew : Crew T W L) (keeper : Keeping) (so_far : SoFar)
     (stands : Stands words start (at_phase words start moments a b shown crew keeper Leaving) so_far) (follows : start.once ≡ false) (last : Opened) (closed : IsClosedLast (files_of so_far) last)
-    (next : Opened) (of_one : AreOfOneFile last next) (size : ℕ) (starts : start_in next ≡ goes_on_behind closed.left size) (keyed_next : IsSome start.shown → IsKeyed next) where
+    (next : Opened) (of_one : AreOfOneFile last next) (starts : start_in next ≡ goes_on_behind closed.left next.begin.size) (keyed_next : IsSome start.shown → IsKeyed next) where
   abbrev watch : Watch
   watch = watch_of start so_far.scans
 
@@ -130,7 +130,7 @@ module _ {T W L D : Type 0} (words : Words T W L D) (reads : (disk : D) → IfSo
   adjoin = (is_in_epochs watch last so_far.moments closed.left.turned is_ruled.in_range closed.left.told is_told).adjoin
 
   earlier : AreEarlier watch start.shown now_opened so_far.moments (so_far.earlier ++ one ∷ [])
-  earlier = one_more_earlier watch so_far.opened so_far.moments slots_apart last next closed.among of_one closed.left is_told adjoin (record { size = size; starts = starts }) start.shown so_far.earlier
+  earlier = one_more_earlier watch so_far.opened so_far.moments slots_apart last next closed.among of_one closed.left is_told adjoin (record { starts = starts }) start.shown so_far.earlier
       stands.files.earlier follows is_left.in_epochs closed.may (λ some. member_is IsKeyed so_far.opened last (stands.files.keyed some) closed.among)
       (λ some. member_is (λ (l : Left). IsSome l.told) so_far.left closed.left (stands.files.left_tell some) its_left)
 
@@ -397,7 +397,7 @@ module _ {T W L D : Type 0} (words : Words T W L D) (reads : (disk : D) → IfSo
       stands_again = subst (λ (c : Crew T W L). Stands words start (at_phase words start moments a b later c new_keeper Leaving) after) (sym others_are) followed
 
       -- and what is known of it is that
-      pub is_opened_again : IsOpenedAgain start.settings.processors now size last next so_far after closed.left
+      pub is_opened_again : IsOpenedAgain start.settings.processors now last next so_far after closed.left
       is_opened_again = record {
         of_one = of_one;
         starts = starts;

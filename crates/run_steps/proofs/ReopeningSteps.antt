@@ -74,6 +74,11 @@ same_start epoch place size start is = by_size (nat_le place size) is
     by_size true same = ap (λ (s : Start). record { epoch = s.epoch; base = s.base }) same
     by_size false same = ap (λ (s : Start). record { epoch = s.epoch; base = s.base }) same
 
+-- an opening comes after all that was reported before it
+placed_now : (tail : Option TailHistory) (one : Opened) (before later : Option FolderHistory) → IsShown before one tail later → IfSome before (λ told. one.opening ≡ length told.events)
+placed_now tail one None later shown = tt
+placed_now tail one (Some before) later shown = shown.opening
+
 module _ {T W L D : Type 0} (words : Words T W L D) (reads : (disk : D) → IfSome (words.disks.contents disk) (words.disks.images disk))
     (counts : (disk : D) (at : ℕ) (image : List ℕ) → at ≤ words.disks.moment disk → words.disks.images disk image → words.disks.images_since disk at image)
     (start : Began D) (moments : Option (List ℕ)) (a b : D) (known : KnownFile) (old : Beginning T W L) (so_far : SoFar)
@@ -176,9 +181,10 @@ module _ {T W L D : Type 0} (words : Words T W L D) (reads : (disk : D) → IfSo
       rule = sym it.rule_is;
     }
 
-    starts : start_in next ≡ goes_on_behind closed.left known.file.listed.size
+    starts : start_in next ≡ goes_on_behind closed.left next.begin.size
     starts = ap (λ (g : Begin). record { epoch = g.epoch.0; base = g.base }) it.begin_is
         ∙ same_start closed.left.turned.history.present.epoch (told_to closed.left.turned.history.present) known.file.listed.size known.file.start is_known.start
+        ∙ ap (λ (g : Begin). goes_on_behind closed.left g.size) (sym it.begin_is)
 
     keyed : IsSome start.shown → IsKeyed next
     keyed some =
@@ -249,23 +255,27 @@ module _ {T W L D : Type 0} (words : Words T W L D) (reads : (disk : D) → IfSo
       its_shown = subst (λ (t : T). IsShown old.folder.told next (words.tails.told t) mid.folder.told) (sym follows_it.opened.tail_kept) it.shown
 
       abbrev later_so : SoFar
-      later_so = after words reads counts start moments a b known.file.now.0 old.folder.told old.crew old.keeper so_far stands follows last closed next of_one known.file.listed.size starts keyed new.keeper
+      later_so = after words reads counts start moments a b known.file.now.0 old.folder.told old.crew old.keeper so_far stands follows last closed next of_one starts keyed new.keeper
           (announced new.keeper taken.announces) harvester (turns harvester follows_it.opened) (known.file.slot.0 % length old.crew.lanes.items) new.crew admits others_are mid.folder.told its_shown
 
       pub record OpenedAgainSo : Type 0 where
         pub opening : Opened
         pub later : SoFar
-        pub again : IsOpenedAgain start.settings.processors known.file.now.0 known.file.listed.size last opening so_far later closed.left
+        pub begin_so : opening.begin ≡ begin
+        pub place : IfSome old.folder.told (λ told. opening.opening ≡ length told.events)
+        pub again : IsOpenedAgain start.settings.processors known.file.now.0 last opening so_far later closed.left
         pub stands_so : StandsIn new later
 
       pub opened_again_so : OpenedAgainSo
       opened_again_so = record {
         opening = next;
         later = later_so;
-        again = is_opened_again words reads counts start moments a b known.file.now.0 old.folder.told old.crew old.keeper so_far stands follows last closed next of_one known.file.listed.size starts keyed new.keeper
+        begin_so = it.begin_is;
+        place = placed_now (words.tails.told tail) next old.folder.told mid.folder.told it.shown;
+        again = is_opened_again words reads counts start moments a b known.file.now.0 old.folder.told old.crew old.keeper so_far stands follows last closed next of_one starts keyed new.keeper
             (announced new.keeper taken.announces) harvester (turns harvester follows_it.opened) (known.file.slot.0 % length old.crew.lanes.items) new.crew admits others_are mid.folder.told its_shown;
         stands_so = subst (λ (f : FolderSeen). Stands words start (at_phase words start moments a b f.told new.crew new.keeper Leaving) later_so) (sym taken.folder)
-            (stands_again words reads counts start moments a b known.file.now.0 old.folder.told old.crew old.keeper so_far stands follows last closed next of_one known.file.listed.size starts keyed new.keeper
+            (stands_again words reads counts start moments a b known.file.now.0 old.folder.told old.crew old.keeper so_far stands follows last closed next of_one starts keyed new.keeper
             (announced new.keeper taken.announces) harvester (turns harvester follows_it.opened) (known.file.slot.0 % length old.crew.lanes.items) new.crew admits others_are mid.folder.told its_shown);
       }
 
@@ -285,9 +295,9 @@ module _ {T W L D : Type 0} (words : Words T W L D) (reads : (disk : D) → IfSo
             (with_shown (record { folder = new.folder; crew = old.crew; keeper = new.keeper }) refl (same ∙ opened.keeper)
             (closed_shown fresh tail (Ok (Key found.key)) found.asks mid opened new.folder.told up.closes.told))
         by_keeper (inr rose) = as_new
-            (left_after words reads counts start moments a b known.file.now.0 old.folder.told old.crew old.keeper so_far stands follows last closed next of_one known.file.listed.size starts keyed new.keeper
+            (left_after words reads counts start moments a b known.file.now.0 old.folder.told old.crew old.keeper so_far stands follows last closed next of_one starts keyed new.keeper
             (announced new.keeper rose) (words.tails.told tail) it.looks_are it.reads it.tail_is it.tells ends (words.tails.faults tail) mid.folder.told new.folder.told it.shown up.closes.told)
-            (stands_unread words reads counts start moments a b known.file.now.0 old.folder.told old.crew old.keeper so_far stands follows last closed next of_one known.file.listed.size starts keyed new.keeper
+            (stands_unread words reads counts start moments a b known.file.now.0 old.folder.told old.crew old.keeper so_far stands follows last closed next of_one starts keyed new.keeper
             (announced new.keeper rose) (words.tails.told tail) it.looks_are it.reads it.tail_is it.tells ends (words.tails.faults tail) mid.folder.told new.folder.told it.shown up.closes.told)
 
   -- ---- whatever it came to
@@ -345,7 +355,7 @@ module _ {T W L D F K B : Type 0} (words : StepWords T W L D F K B) (reads : (di
       known_so = record { slot = is_known.slot; input = is_known.input; key = is_known.key; epoch = is_known.epoch; start = is_known.start }
 
       by_result : (r : Result Admission BeginError) → ReopensOne words.all.tails start.settings known r (beginning_at words now) (record { folder = words.seen folder; crew = crew; keeper = keeper }) →
-          StandsBehind words context known r start so_far last closed (leaving (with_opened now folder crew keeper))
+          StandsBehind words context known r start so_far last closed (leaving now) (leaving (with_opened now folder crew keeper))
       by_result (Ok Followed) is =
           let so = opened_again_so words.all reads counts start (moments_at words now) now.storing.a.now now.storing.b.now known (beginning_at words now) (record so_far { moments = so_far.moments ++ at.more })
           at.stands (by.once ∙ may.follows) last closed_so known_so at.ends is.fresh is.follows.tail is.follows.keyed is.mid is.opened (record { folder = words.seen folder; crew = crew; keeper = keeper })
@@ -354,7 +364,9 @@ module _ {T W L D F K B : Type 0} (words : StepWords T W L D F K B) (reads : (di
             more = at.more;
             next = so.opening;
             later = so.later;
-            again = subst (λ (s : Settings). IsOpenedAgain s.processors known.file.now.0 known.file.listed.size last so.opening (record so_far { moments = so_far.moments ++ at.more }) so.later closed.left) by.settings so.again;
+            begin_is = so.begin_so;
+            place = so.place;
+            again = subst (λ (s : Settings). IsOpenedAgain s.processors known.file.now.0 last so.opening (record so_far { moments = so_far.moments ++ at.more }) so.later closed.left) by.settings so.again;
             stands = so.stands_so;
           }
       by_result (Ok (Skipped why)) is = record {

@@ -1,6 +1,6 @@
 -- A worked file that is opened again: its tail told up to byte 7 of epoch 2 and was closed at its file's end. Listed with 9 bytes it goes on there, and nothing is
 -- announced; listed with 3 it goes on from its first byte in epoch 3, which is announced. A tail that is open, one that was closed as it was asked for
--- its key, another key, and a place among the bytes that were told are refused.
+-- its key, another key, a place among the bytes that were told, and an opening that goes on by another size than it was listed with are refused.
 use Rattle.std.proofs.Common.{◌≡◌, ◌==◌, ℕ, List, [], ◌∷◌, ◌++◌, Contains, None, if◌then◌else◌, codes, refl, sym, ap, subst, ◌∙◌, arith}
 use Rattle.accounts.specs.FollowedFile.{MayReopenAt, start_in}
 use Rattle.accounts.specs.Opened.{Opened}
@@ -16,7 +16,7 @@ use Rattle.slot_parts.specs.Account.{goes_on}
 use Rattle.slot_parts.specs.Tellings.{tellings_in}
 use Rattle.wire_base.specs.declared.note.Note.{Note}
 use Rattle.wire_base.specs.declared.note.Note.TheVariants.{Announce}
-use Rattle.run_steps.specs.Earlier.{AreInTurn, AreOfOneFile}
+use Rattle.run_steps.specs.Earlier.{AreInTurn, AreOfOneFile, GoesOnFrom}
 use Rattle.run_steps.specs.OpenedAgain.{IsClosedLast, IsOpenedAgain, goes_on_behind, just_opened}
 use Rattle.run_steps.specs.Reopening.{goes_on_at}
 use Rattle.run_steps.specs.SoFar.{Earlier, Left, SoFar, announced_by, files_of, first_opened}
@@ -27,17 +27,20 @@ announced_as_told : (processors : List ProcessorRule) (now : ℕ) (one : Earlier
 announced_as_told processors now one = refl
 
 module _ (rule : InputRule) (file : File) (processors : List ProcessorRule) (history : History) (in_epoch : history.present.epoch ≡ 2) (told_so_far : told_to history.present ≡ 7) (at_end : history.stage ≡ Ended) (told : Told) where
-  -- opened at this place of the folder's list, to be read from this place of this epoch
-  abbrev opened_at : List ℕ → ℕ → ℕ → ℕ → Opened
-  opened_at key opening epoch base = record {
-    begin = record { slot = record { 0 = 4 }; input = 0; key = key; path = codes "/a"; size = 9; epoch = record { 0 = epoch }; base = base };
+  -- opened at this place of the folder's list and listed with this size, to be read from this place of this epoch
+  abbrev opened_with : List ℕ → ℕ → ℕ → ℕ → ℕ → Opened
+  opened_with key opening size epoch base = record {
+    begin = record { slot = record { 0 = 4 }; input = 0; key = key; path = codes "/a"; size = size; epoch = record { 0 = epoch }; base = base };
     rule = rule;
     opening = opening;
     number = 0;
-    begun = record { life = 0; length = 9 };
+    begun = record { life = 0; length = size };
     file = file;
     asked = [];
   }
+
+  abbrev opened_at : List ℕ → ℕ → ℕ → ℕ → Opened
+  opened_at key opening epoch base = opened_with key opening 9 epoch base
 
   abbrev first : Opened
   first = opened_at (1 ∷ []) 3 2 5
@@ -83,6 +86,9 @@ module _ (rule : InputRule) (file : File) (processors : List ProcessorRule) (his
   longer_starts : start_in longer ≡ goes_on_behind closed 9
   longer_starts = sym (goes_on_where 9)
 
+  longer_goes_on : GoesOnFrom history longer
+  longer_goes_on = record { starts = longer_starts }
+
   nothing_announced : announced_by (record { opened = first; left = closed; next = longer }) ≡ []
   nothing_announced = (λ k. if 2 == in_epoch k then [] else Announce (record { 0 = 4 }) (record { 0 = 2 }) ∷ [])
 
@@ -94,7 +100,7 @@ module _ (rule : InputRule) (file : File) (processors : List ProcessorRule) (his
     earlier = record { opened = first; left = closed; next = longer } ∷ [];
   }
 
-  opened_again : IsOpenedAgain processors 1 9 first longer before behind closed
+  opened_again : IsOpenedAgain processors 1 first longer before behind closed
   opened_again = record {
     of_one = record { slot = refl; input = refl; key = refl; rule = refl };
     starts = longer_starts;
@@ -118,10 +124,13 @@ module _ (rule : InputRule) (file : File) (processors : List ProcessorRule) (his
   -- ---- the file is shorter
 
   abbrev shorter : Opened
-  shorter = opened_at (1 ∷ []) 8 3 0
+  shorter = opened_with (1 ∷ []) 8 3 3 0
 
   shorter_starts : start_in shorter ≡ goes_on_behind closed 3
   shorter_starts = sym (goes_on_where 3)
+
+  shorter_goes_on : GoesOnFrom history shorter
+  shorter_goes_on = record { starts = shorter_starts }
 
   epoch_announced : announced_by (record { opened = first; left = closed; next = shorter }) ≡ Announce (record { 0 = 4 }) (record { 0 = 3 }) ∷ []
   epoch_announced = (λ k. if 3 == in_epoch k then [] else Announce (record { 0 = 4 }) (record { 0 = 3 }) ∷ [])
@@ -146,6 +155,14 @@ module _ (rule : InputRule) (file : File) (processors : List ProcessorRule) (his
   -- from a byte that was told
   told_byte_is_refused : start_in (opened_at (1 ∷ []) 8 2 6) ≡ goes_on_behind closed 9 → ⊥
   told_byte_is_refused is = let same = ap (λ (s : Start). s.base) (is ∙ goes_on_where 9) in omega (arith, same)
+
+  -- listed with 3 bytes, and read on from byte 7 as if it had that many
+  greater_size_is_refused : GoesOnFrom history (opened_with (1 ∷ []) 8 3 2 7) → ⊥
+  greater_size_is_refused is = let same = ap (λ (s : Start). s.epoch) (is.starts ∙ goes_on_where 3) in omega (arith, same)
+
+  -- listed with 9 bytes, and read from its first byte in the next epoch as if it were shorter than was told
+  smaller_size_is_refused : GoesOnFrom history (opened_with (1 ∷ []) 8 9 3 0) → ⊥
+  smaller_size_is_refused is = let same = ap (λ (s : Start). s.epoch) (is.starts ∙ goes_on_where 9) in omega (arith, same)
 
   -- an epoch that did not rise is not announced
   same_epoch_is_not_announced : (note : Note) → Contains (announced_by (record { opened = first; left = closed; next = longer })) note → ⊥

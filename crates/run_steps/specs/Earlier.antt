@@ -22,11 +22,10 @@ pub record AreOfOneFile (one other : Opened) : Type 0 where
   pub key : one.begin.key ≡ other.begin.key
   pub rule : one.rule ≡ other.rule
 
--- the next one goes on where so much was told: in the same epoch where the file was listed with at least that size, else from the first byte
--- in the next one
+-- the next one goes on where so much was told: in the same epoch if it was listed with at least that size, else from the first byte in the next
+-- epoch
 pub record GoesOnFrom (history : History) (next : Opened) : Type 0 where
-  pub size : ℕ
-  pub starts : start_in next ≡ goes_on history.present.epoch (told_to history.present) size
+  pub starts : start_in next ≡ goes_on history.present.epoch (told_to history.present) next.begin.size
 
 -- what was told so ends before the place at which a later one begins, or there
 abbrev pub EndsBefore : History → Opened → Type 0

@@ -37,10 +37,10 @@ just_opened processors one now = record { slot = one.begin.slot; history = opene
 abbrev pub HasOneMore : Turned → List (List Turned) → List (List Turned) → Type 0
 HasOneMore turned old new = AsOften (flat_map (λ lane. lane) new) (turned ∷ flat_map (λ lane. lane) old)
 
--- this opening took the place of the last one, which was listed with this size, at this moment
-pub record IsOpenedAgain (processors : List ProcessorRule) (now size : ℕ) (last next : Opened) (before after : SoFar) (closed : Left) : Type 0 where
+-- this opening took the place of the last one, at this moment, and goes on by the size with which it was listed
+pub record IsOpenedAgain (processors : List ProcessorRule) (now : ℕ) (last next : Opened) (before after : SoFar) (closed : Left) : Type 0 where
   pub of_one : AreOfOneFile last next
-  pub starts : start_in next ≡ goes_on_behind closed size
+  pub starts : start_in next ≡ goes_on_behind closed next.begin.size
   pub front : List Left
   pub behind : List Left
   pub left_were : before.left ≡ front ++ closed ∷ behind

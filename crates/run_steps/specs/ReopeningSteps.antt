@@ -1,13 +1,14 @@
 -- Opening a file again as a step of a run (this project's profile): only the folder, the lanes and the keeper are used, at the moment that the clock gave
 -- last, in a run that goes on whatever was told of its files. What stood before it stands after it, with the moment among those of the run: with one
 -- more opening before the last ones if the file is followed, and no other change if it is skipped or fails. If the call ends, something stands.
-use Rattle.std.specs.Prelude.{◌≡◌, ℕ, ◌++◌, false, List, Result, Ok, Err, Some}
+use Rattle.std.specs.Prelude.{◌≡◌, ℕ, ◌++◌, false, length, List, IfSome, Result, Ok, Err, Some}
 use Rattle.accounts.specs.Opened.{Opened}
 use Rattle.harvester.specs.History.{told_to}
 use Rattle.keeper.specs.Keeping.{Keeping}
 use Rattle.outside.specs.Times.{GivesMoment}
 use Rattle.rounds.specs.declared.crew.Crew.{Crew}
 use Rattle.run_steps.specs.Began.{Began}
+use Rattle.run_steps.specs.BeginFor.{begin_for}
 use Rattle.run_steps.specs.Beginning.{Beginning}
 use Rattle.run_steps.specs.Goes.{StepWords, Stop, moments_at, state_at}
 use Rattle.run_steps.specs.OpenedAgain.{IsClosedLast, IsOpenedAgain}
@@ -51,26 +52,28 @@ module _ {T W L D F K B : Type 0} (words : StepWords T W L D F K B) (context : C
     pub more : List ℕ
     pub stands : Stands words.all start (state_at words now) (record so_far { moments = so_far.moments ++ more })
 
-  -- the file is followed
-  pub record StandsAgain (start : Began D) (so_far : SoFar) (last : Opened) (closed : IsClosedLast (files_of so_far) last) (now : Stop T W L D F K B) : Type 0 where
+  -- the file is followed: it begins as it is listed now, with the key that it had, and its opening comes after all that the folder reported before the step
+  pub record StandsAgain (start : Began D) (so_far : SoFar) (last : Opened) (closed : IsClosedLast (files_of so_far) last) (before now : Stop T W L D F K B) : Type 0 where
     pub more : List ℕ
     pub next : Opened
     pub later : SoFar
-    pub again : IsOpenedAgain context.settings.now.processors known.file.now.0 known.file.listed.size last next (record so_far { moments = so_far.moments ++ more }) later closed.left
+    pub begin_is : next.begin ≡ begin_for known.file.slot known.file.listed last.begin.key known.file.start
+    pub place : IfSome (words.seen before.system.folder.now).told (λ told. next.opening ≡ length told.events)
+    pub again : IsOpenedAgain context.settings.now.processors known.file.now.0 last next (record so_far { moments = so_far.moments ++ more }) later closed.left
     pub stands : Stands words.all start (state_at words now) later
 
   -- by what the step answered
-  abbrev pub StandsBehind : Result Admission BeginError → (start : Began D) (so_far : SoFar) (last : Opened) → IsClosedLast (files_of so_far) last → Stop T W L D F K B → Type 0
-  StandsBehind (Ok Followed) start so_far last closed now = StandsAgain start so_far last closed now
-  StandsBehind (Ok (Skipped why)) start so_far last closed now = StandsLater start so_far now
-  StandsBehind (Ok Failed) start so_far last closed now = StandsLater start so_far now
-  StandsBehind (Err error) start so_far last closed now = Further words.all start (state_at words now)
+  abbrev pub StandsBehind : Result Admission BeginError → (start : Began D) (so_far : SoFar) (last : Opened) → IsClosedLast (files_of so_far) last → Stop T W L D F K B → Stop T W L D F K B → Type 0
+  StandsBehind (Ok Followed) start so_far last closed before now = StandsAgain start so_far last closed before now
+  StandsBehind (Ok (Skipped why)) start so_far last closed before now = StandsLater start so_far now
+  StandsBehind (Ok Failed) start so_far last closed before now = StandsLater start so_far now
+  StandsBehind (Err error) start so_far last closed before now = Further words.all start (state_at words now)
 
   -- for each run of these settings that stands so, and that closed the last tail of the file
   abbrev pub IsReopeningStep : Result Admission BeginError → Stop T W L D F K B → Stop T W L D F K B → Type 0
   IsReopeningStep result before after =
       (start : Began D) (so_far : SoFar) → BeganBy (rules_of context) start → Stands words.all start (state_at words before) so_far → (last : Opened) (closed : IsClosedLast (files_of so_far) last) →
-      IsKnownAs known so_far last closed → StandsBehind result start so_far last closed after
+      IsKnownAs known so_far last closed → StandsBehind result start so_far last closed before after
 
   -- the run does not read its files once, the clock would give this moment again, and the step was made so
   pub record MayOpenAgain (result : Result Admission BeginError) (before after : Stop T W L D F K B) : Type 0 where
