@@ -24,12 +24,12 @@ use Rattle.told_scans.proofs.ToldScans.{nothing_appended}
 use Rattle.told_scans.specs.ToldScan.{ToldScan}
 use Rattle.told_scans.specs.ToldScans.{AreToldFrom}
 use Rattle.told_scans.specs.OnlyAsked.{IsNoListing, WasClosedWith, WasOnlyAsked}
-use Rattle.run_steps.specs.Shown.{HasDone, IsStillOpen, IsTurnedIn, WasClosedAs, WasOpenedSince, openings_of}
+use Rattle.run_steps.specs.Shown.{HasDone, IsStillOpen, IsTurnedIn, WasClosedAs, WasClosedInTurn, WasOpenedSince, openings_of}
 use Rattle.run_steps.specs.LaterScans.{LaterScan, told_in}
 use Rattle.run_steps.specs.SoFar.{Earlier, FilesSoFar, Left, SoFar, files_of, opened_before, openings_within}
 use Rattle.accounts.proofs.Grounded.{each_member}
 use Rattle.accounts.proofs.Orderly.{member_is}
-use Rattle.run_steps.proofs.Closing.{closes_its}
+use Rattle.run_steps.proofs.Closing.{closes_its, in_turn_still}
 use Rattle.told_scans.proofs.Events.{got_at_end}
 
 -- ---- closings
@@ -154,9 +154,12 @@ module _ (settings : Settings) (before now : FolderHistory) (so_far : SoFar) (do
       go None was = tt
       go (Some tail) was = closed_stays tail.opening tail.looks was
 
-  pub earlier_stays : (earlier : List Earlier) → AllByRecursion (λ (e : Earlier). WasClosedAs now e.left) earlier → AllByRecursion (λ (e : Earlier). WasClosedAs (with_more now more) e.left) earlier
+  pub earlier_stays : (earlier : List Earlier) → AllByRecursion (WasClosedInTurn now) earlier → AllByRecursion (WasClosedInTurn (with_more now more)) earlier
   earlier_stays [] each = tt
-  earlier_stays (one ∷ earlier) each = ((left_stays (one.left ∷ []) (each.0, tt)).0, earlier_stays earlier each.1)
+  earlier_stays (one ∷ earlier) each = (
+    in_turn_still now more one each.0 (left_stays (one.left ∷ []) (each.0.closed, tt)).0,
+    earlier_stays earlier each.1,
+  )
 
   grown : length now.events ≤ length (with_more now more).events
   grown = let is = length-append now.events more in omega (arith, is)
@@ -207,7 +210,7 @@ module _ (settings : Settings) (before now : FolderHistory) (so_far : SoFar) (do
       pub apart : AreDistinct (openings_of (openings_within after))
 
     pub done_on : (after : FilesSoFar) → AreThose after → AllByRecursion (WasClosedAs (with_more now more)) after.left →
-        AllByRecursion (λ (e : Earlier). WasClosedAs (with_more now more) e.left) after.earlier →
+        AllByRecursion (WasClosedInTurn (with_more now more)) after.earlier →
         ((one : OpenedFile) → Contains after.opened one → IsTurnedIn after one → IsStillOpen (with_more now more) one.opening) → HasDone settings before (with_more now more) after
     done_on after are closed closed_before still = record {
       files = done.files;

@@ -14,9 +14,10 @@ use Rattle.kept_rows.specs.Scans.{AreDistinct}
 use Rattle.outside.specs.Folders.{Event, FolderHistory}
 use Rattle.ship_core.proofs.Members.{first_there, later_there, none_there, there_cases}
 use Rattle.run_steps.specs.OpenedAgain.{IsClosedLast}
-use Rattle.run_steps.specs.Shown.{HasDone, IsStillOpen, IsTurnedIn, WasClosedAs, openings_of}
+use Rattle.run_steps.specs.Shown.{HasDone, IsStillOpen, IsTurnedIn, WasClosedAs, WasClosedInTurn, openings_of}
 use Rattle.run_steps.specs.LaterScans.{told_in}
 use Rattle.run_steps.specs.SoFar.{Earlier, FilesSoFar, Left, SoFar, files_of, opened_before, openings_within, with_opening}
+use Rattle.run_steps.proofs.Closing.{closed_in_turn}
 use Rattle.run_steps.proofs.EarlierMore.{slot_numbers}
 use Rattle.run_steps.proofs.Openings.{Adds, AreThose, all_opened, below_all, done_on, earlier_stays, left_stays, openings_below, still_stays, with_more}
 use Rattle.run_steps.proofs.WithOpening.{IsOther, all_apart, members, next_there, others_there}
@@ -98,11 +99,23 @@ module _ (settings : Settings) (first now : FolderHistory) (so_far : SoFar) (don
   its_left_stays = member_is (WasClosedAs (with_more now more)) so_far.left closed.left (left_stays settings first now so_far done more so_far.left done.closed)
       (subst (λ (ls : List Left). Contains ls closed.left) (sym closed.left_are) (it_there closed.before closed.behind closed.left))
 
+  -- and it was closed before the next one was opened
+  abbrev pub one : Earlier
+  one = record { opened = last; left = closed.left; next = next }
+
+  its_turn : WasClosedInTurn (with_more now more) one
+  its_turn = record {
+    closed = its_left_stays;
+    in_turn = closed_in_turn now more next.opening at closed.left.told
+        (member_is (WasClosedAs now) so_far.left closed.left done.closed
+        (subst (λ (ls : List Left). Contains ls closed.left) (sym closed.left_are) (it_there closed.before closed.behind closed.left)));
+  }
+
   pub opened_again_done : AllByRecursion (WasClosedAs (with_more now more)) after.left → ((other : OpenedFile) → IsOther next other → IsTurnedIn after other → IsTurnedIn (files_of so_far) other) →
       (IsTurnedIn after next → IsStillOpen (with_more now more) next.opening) → HasDone settings first (with_more now more) after
   opened_again_done left_closed turned_before itself = done_on settings first now so_far done more (next ∷ []) adds after are_those left_closed
-      (subst (AllByRecursion (λ (e : Earlier). WasClosedAs (with_more now more) e.left)) (sym earlier_are)
-      (each_last (λ (e : Earlier). WasClosedAs (with_more now more) e.left) so_far.earlier _ (earlier_stays settings first now so_far done more so_far.earlier done.closed_before) its_left_stays))
+      (subst (AllByRecursion (WasClosedInTurn (with_more now more))) (sym earlier_are)
+      (each_last (WasClosedInTurn (with_more now more)) so_far.earlier one (earlier_stays settings first now so_far done more so_far.earlier done.closed_before) its_turn))
       (λ one there turned. ⊎_elim
       (λ (is : one ≡ next). subst (λ (o : OpenedFile). IsStillOpen (with_more now more) o.opening) (sym is) (itself (subst (IsTurnedIn after) is turned)))
       (λ old.

@@ -43,7 +43,7 @@ use Rattle.run_steps.specs.LastEpoch.{IsAnswered}
 use Rattle.run_steps.specs.LaterScans.{AreLaterScans, IsKnownScan, IsNextScan, LaterScan, ScansOn, WasMissed, WasNamed, told_in}
 use Rattle.run_steps.specs.ReadBehind.{ReadsBehind}
 use Rattle.run_steps.specs.RunState.{Phase, RunState}
-use Rattle.run_steps.specs.Shown.{HasDone, HasShown, IsStillOpen, WasClosedAs, WasOpenedSince, openings_of}
+use Rattle.run_steps.specs.Shown.{HasDone, HasShown, IsStillOpen, WasClosedAs, WasClosedInTurn, WasOpenedSince, openings_of}
 use Rattle.run_steps.specs.SoFar.{Earlier, Left, SoFar, files_of, first_opened, openings_within}
 use Rattle.run_steps.specs.Stands.{AreTurnedIn, HoldsWhereNoFault, IsLeftSo, Stands, watch_of}
 use Rattle.run_steps.proofs.EarlierOn.{earlier_watched}
@@ -165,7 +165,7 @@ module _ {T W L D : Type 0} (words : Words T W L D) (start : Began D) (moments :
       apart = done.apart;
       serve = serve;
       closed = subst (λ (h : FolderHistory). AllByRecursion (WasClosedAs h) so_far.left) (sym after_is) (left_stays start.settings before now so_far done adds.more so_far.left done.closed);
-      closed_before = subst (λ (h : FolderHistory). AllByRecursion (λ (e : Earlier). WasClosedAs h e.left) so_far.earlier) (sym after_is)
+      closed_before = subst (λ (h : FolderHistory). AllByRecursion (WasClosedInTurn h) so_far.earlier) (sym after_is)
           (earlier_stays start.settings before now so_far done adds.more so_far.earlier done.closed_before);
       still_open = λ one among turned.
           let below = below_all start.settings before now so_far done one among in

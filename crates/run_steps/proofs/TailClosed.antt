@@ -53,13 +53,13 @@ use Rattle.told_scans.specs.OnlyAsked.{IsNoListing, WasClosedWith, WasOnlyAsked}
 use Rattle.told_scans.proofs.ToldScans.{nothing_appended}
 use Rattle.run_steps.specs.LaterScans.{told_in}
 use Rattle.told_scans.proofs.ScansPlaced.{between_on}
-use Rattle.run_steps.specs.Shown.{HasDone, HasShown, IsStillOpen, WasClosedAs, WasOpenedSince, openings_of}
+use Rattle.run_steps.specs.Shown.{HasDone, HasShown, IsStillOpen, WasClosedAs, WasClosedInTurn, WasOpenedSince, openings_of}
 use Rattle.run_steps.specs.SoFar.{Earlier, Left, SoFar, all_told, books_of, files_in, files_of, notes_of, opened_before, openings_within, told_before}
 use Rattle.run_steps.specs.Stands.{AreAnswered, AreEachOnce, Books, BooksNow, Files, FilesNow, HaveGiven, HoldsWhereNoFault, IsFollowing, IsLeftRead, IsLeftSo, MayTell, ReadsYet, watch_of}
 use Rattle.run_steps.proofs.AreRead.{read_now}
 use Rattle.run_steps.proofs.Admitting.{booked_by, often_mapped, placed_by, spans_often}
 use Rattle.run_steps.proofs.Causing.{some_parted}
-use Rattle.run_steps.proofs.Closing.{closed_as_it_was, closed_now, closed_still, closes_its, closes_no_other, open_still}
+use Rattle.run_steps.proofs.Closing.{closed_as_it_was, closed_now, closed_still, closes_its, closes_no_other, in_turn_still, open_still}
 use Rattle.run_steps.proofs.First.{got_within}
 use Rattle.run_steps.proofs.Growing.{grown_by_nothing, grown_by_two, grown_closing}
 use Rattle.run_steps.proofs.FollowedFiles.{answered_resting}
@@ -280,11 +280,11 @@ module _ {T W L D : Type 0} (words : Words T W L D) (start : Began D) (moments :
             let of = member_is (IsLeftSo watch so_far.opened so_far.moments) so_far.left l reads.files.left there in
             closed_as_before tells l of.file (Contains-append_right (opened_before so_far.earlier) so_far.opened of.file of.among) of.is_told.tail (member_is (WasClosedAs now) so_far.left l done.closed there)
 
-        closed_earlier : (tells : Option TailHistory) (e : Earlier) → Contains so_far.earlier e → WasClosedAs (then_told tells) e.left
+        closed_earlier : (tells : Option TailHistory) (e : Earlier) → Contains so_far.earlier e → WasClosedInTurn (then_told tells) e
         closed_earlier tells e there =
             let of = member_is (IsEarlierSo watch so_far.opened so_far.moments) so_far.earlier e reads.files.earlier.each there in
-            closed_as_before tells e.left e.opened (Contains-append_left (opened_before so_far.earlier) so_far.opened e.opened (mapped_there (λ (one : Earlier). one.opened) so_far.earlier e there)) of.is_told.tail
-            (member_is (λ (one : Earlier). WasClosedAs now one.left) so_far.earlier e done.closed_before there)
+            let was = member_is (WasClosedInTurn now) so_far.earlier e done.closed_before there in in_turn_still now (events tells) e was
+            (closed_as_before tells e.left e.opened (Contains-append_left (opened_before so_far.earlier) so_far.opened e.opened (mapped_there (λ (one : Earlier). one.opened) so_far.earlier e there)) of.is_told.tail was.closed)
 
         asked_still : (tells : Option TailHistory) (opening : ℕ) → opening < length now.events → WasOnlyAsked now opening → WasOnlyAsked (then_told tells) opening
         asked_still tells opening below was = record { looks = was.looks; closed = closed_still now (events tells) opening was.looks below was.closed; reads = was.reads }
@@ -338,7 +338,7 @@ module _ {T W L D : Type 0} (words : Words T W L D) (start : Began D) (moments :
                 (λ here. ⊎_elim (λ among. inl among)
                 (λ was. inr (asked_still tells opening (got_within now.events opening (folders.Opened path number begun) here) was)) (done.serve opening path number begun since here))
                 (λ there. absurd (no_opening tells path number begun there)) (got_in now.events (events tells) opening (folders.Opened path number begun) is);
-            closed_before = each_member (λ (e : Earlier). WasClosedAs (then_told tells) e.left) so_far.earlier (closed_earlier tells);
+            closed_before = each_member (WasClosedInTurn (then_told tells)) so_far.earlier (closed_earlier tells);
             closed = each_last (WasClosedAs (then_told tells)) so_far.left left_one
                 (each_member (WasClosedAs (then_told tells)) so_far.left (closed_before tells))
                 (subst (λ (o : Option TailHistory). IfSome o (λ tail. WasClosedWith (then_told tells) tail.opening tail.looks)) (sym told_is) (closed_here tells refl));

@@ -1,19 +1,20 @@
 -- What a run does with the folder after its first scan (this project's profile): it opens files and closes them, and scans again.
 -- Each opening is of a file that was begun, or its tail was closed when it had been asked for its key, or unread.
-use Rattle.std.specs.Prelude.{◌≡◌, ◌⊎◌, ℕ, suc, ◌≤◌, drop, List, [], ◌∷◌, ◌++◌, Contains, length, map, slice_get, Option, Some, None, IfSome}
+use Rattle.std.specs.Prelude.{◌≡◌, ◌⊎◌, ℕ, suc, ◌<◌, ◌≤◌, drop, List, [], ◌∷◌, ◌++◌, Contains, length, map, slice_get, Option, Some, None, IfSome}
 use Rattle.std.specs.List.{AllByRecursion, flat_map}
 use Rattle.accounts.specs.Opened.{Opened as OpenedFile}
 use Rattle.event_tree.specs.declared.settings.Settings.{Settings}
 use Rattle.kept_rows.specs.Scans.{AreDistinct, StandInOrder}
 use Rattle.kept_rows.specs.Trace.{closing_in}
-use Rattle.outside.specs.Folders.{Event, FolderHistory, Opened}
+use Rattle.outside.specs.Folders.{Closed, Event, FolderHistory, Opened}
+use Rattle.outside.specs.Tails.{TailHistory}
 use Rattle.outside.specs.Times.{EndsWith}
 use Rattle.outside.specs.declared.history.Sight.{Sight}
 use Rattle.told_scans.specs.OnlyAsked.{WasClosedWith, WasOnlyAsked}
 use Rattle.told_scans.specs.ToldScan.{ToldScan}
 use Rattle.told_scans.specs.ToldScans.{AreToldFrom, LiesBetween}
 use Rattle.run_steps.specs.LaterScans.{told_in}
-use Rattle.run_steps.specs.SoFar.{FilesSoFar, Left, openings_within}
+use Rattle.run_steps.specs.SoFar.{Earlier, FilesSoFar, Left, openings_within}
 
 abbrev pub IsStillOpen : FolderHistory → ℕ → Type 0
 IsStillOpen told opening = closing_in opening (drop (suc opening) told.events) ≡ None
@@ -35,6 +36,19 @@ IsTurnedIn so_far one = Contains (map (λ turned. turned.slot) (flat_map (λ tur
 abbrev pub WasClosedAs : FolderHistory → Left → Type 0
 WasClosedAs told one = IfSome one.told (λ tail. WasClosedWith told tail.opening tail.looks)
 
+-- the tail was closed with what it told at a place of the folder's list: after its own opening, and before this next one
+pub record WasClosedBy (told : FolderHistory) (tail : TailHistory) (next : ℕ) : Type 0 where
+  pub place : ℕ
+  pub faults : ℕ
+  pub closed : slice_get told.events place ≡ Some (Closed tail.opening tail.looks faults)
+  pub since : tail.opening < place
+  pub before : place < next
+
+-- the tail of an opening that came before was closed, and before the next one of its file was opened
+pub record WasClosedInTurn (told : FolderHistory) (one : Earlier) : Type 0 where
+  pub closed : WasClosedAs told one.left
+  pub in_turn : IfSome one.left.told (λ tail. WasClosedBy told tail one.next.opening)
+
 pub record HasDone (settings : Settings) (before after : FolderHistory) (so_far : FilesSoFar) : Type 0 where
   pub files : after.files ≡ before.files
   pub more : List Event
@@ -46,7 +60,7 @@ pub record HasDone (settings : Settings) (before after : FolderHistory) (so_far 
   pub serve : (opening : ℕ) (path : List ℕ) (number : ℕ) (begun : Sight) → length before.events ≤ opening →
       slice_get after.events opening ≡ Some (Opened path number begun) → Contains (openings_of (openings_within so_far)) opening ⊎ WasOnlyAsked after opening
   pub closed : AllByRecursion (WasClosedAs after) so_far.left
-  pub closed_before : AllByRecursion (λ one. WasClosedAs after one.left) so_far.earlier
+  pub closed_before : AllByRecursion (WasClosedInTurn after) so_far.earlier
   pub still_open : (one : OpenedFile) → Contains so_far.opened one → IsTurnedIn so_far one → IsStillOpen after one.opening
 
 abbrev pub HasShown : Settings → Option FolderHistory → Option FolderHistory → FilesSoFar → Type 0
