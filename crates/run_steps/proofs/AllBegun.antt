@@ -50,7 +50,7 @@ none_behind xs ys long = let both = length-append xs ys in omega (arith, long, b
 -- ---- where nothing was begun, nothing was noted
 
 module _ {T W L D : Type 0} (words : Words T W L D) (start : Began D) (moments : Option (List ℕ)) (a b : D) (now : Moment) (old : Beginning T W L) (so_far : SoFar)
-    (stands : Stands words start (at_phase words start moments a b old.folder.told old.crew old.keeper Reading) (opened_once so_far)) (none_opened : so_far.opened ≡ []) (none_hidden : so_far.hidden ≡ []) where
+    (stands : Stands words start (at_phase words start moments a b old.folder.told old.crew old.keeper Reading) (opened_once so_far)) (none_opened : so_far.opened ≡ []) (none_hidden : so_far.hidden ≡ []) (none_scanned : so_far.scans ≡ []) where
   no_files : files_in so_far ≡ []
   no_files = nil_by (files_in so_far) (let long = often_counted (map (λ (t : Turned). t.slot) (files_in so_far)) (map (λ (o : Opened). o.begin.slot) so_far.opened) stands.files.each_once.are in
       let none = ap (λ (l : List Opened). length (map (λ (o : Opened). o.begin.slot) l)) none_opened in
@@ -116,6 +116,7 @@ module _ {T W L D : Type 0} (words : Words T W L D) (start : Began D) (moments :
     begun_are = none_begun ∙ sym (ap (map (λ (o : Opened). noted_begin o.begin)) none_opened);
     notes_are = none_noted_yet ∙ sym none_begun;
     none_hidden = none_hidden;
+    none_scanned = none_scanned;
     ends = ends;
   }
 
@@ -185,12 +186,12 @@ module _ {T W L D : Type 0} (words : Words T W L D) (reads : (disk : D) → IfSo
   front_listed count slot listed to = listed_from slot (take count listed) (front_to_begin count slot listed to)
 
   module _ (old : Beginning T W L) (so_far : SoFar) (stands : Stands words start (at_phase words start moments a b old.folder.told old.crew old.keeper Reading) (opened_once so_far))
-      (none_opened : so_far.opened ≡ []) (none_hidden : so_far.hidden ≡ []) (ends : EndsAt so_far.moments now.0) (of_inputs : AllByRecursion (IsOfRuledInput start.settings) start.listed) where
+      (none_opened : so_far.opened ≡ []) (none_hidden : so_far.hidden ≡ []) (none_scanned : so_far.scans ≡ []) (ends : EndsAt so_far.moments now.0) (of_inputs : AllByRecursion (IsOfRuledInput start.settings) start.listed) where
     to_begin : AreToBegin 0 start.listed
     to_begin = are_to_begin [] start.listed refl of_inputs
 
     at_first : BeginsBelow words reads counts start moments a b now 0 old
-    at_first = nothing_begun words start moments a b now old so_far stands none_opened none_hidden ends
+    at_first = nothing_begun words start moments a b now old so_far stands none_opened none_hidden none_scanned ends
 
     behind_some : (count : ℕ) (came : Came) (mid : Beginning T W L) → BeginsFrom words.tails start.settings start.opening now 0 (take count start.listed) came old mid →
         BeginsBelow words reads counts start moments a b now (length (take count start.listed) + 0) mid

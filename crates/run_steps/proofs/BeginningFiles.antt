@@ -92,6 +92,7 @@ module _ {T W L D : Type 0} (words : Words T W L D) (reads : (disk : D) → IfSo
     begun_are = begins.begun_are;
     notes_are = begins.notes_are;
     none_hidden = begins.none_hidden;
+    none_scanned = begins.none_scanned;
     ends = begins.ends;
   }
 
@@ -105,6 +106,7 @@ module _ {T W L D : Type 0} (words : Words T W L D) (reads : (disk : D) → IfSo
       begun_are = begins.begun_are;
       notes_are = begins.notes_are;
       none_hidden = begins.none_hidden;
+      none_scanned = begins.none_scanned;
       ends = begins.ends;
     }
 

@@ -33,6 +33,7 @@ use Rattle.run_steps.specs.Beginning.{SameLanes}
 use Rattle.run_steps.specs.Begun.{AreBeginNotes, AreSlotsFrom, IsKeyed, IsOpenedAsListed, IsRuled, MayBegin, noted_begin}
 use Rattle.run_steps.specs.LaterScans.{LaterScan}
 use Rattle.run_steps.specs.LastEpoch.{HaveOneOver}
+use Rattle.run_steps.specs.ListedSo.{WasListedSo}
 use Rattle.run_steps.specs.RunState.{Finished, Phase, Reading, RunState}
 use Rattle.run_steps.specs.Shown.{HasShown, IsTurnedIn}
 use Rattle.run_steps.specs.SoFar.{Left, SoFar, books_of, files_in, files_of}
@@ -40,6 +41,7 @@ use Rattle.run_steps.specs.Stands.{AreEachOnce, Books, Files, Stands}
 use Rattle.run_steps.proofs.AreRead.{none_left_read}
 use Rattle.run_steps.proofs.EarlierOn.{opened_once}
 use Rattle.run_steps.proofs.FollowedFiles.{begins_to_follow}
+use Rattle.run_steps.proofs.ListedSo.{listed_first}
 use Rattle.run_steps.proofs.Admitting.{all_of, often_mapped, spans_often}
 use Rattle.accounts.proofs.Joining.{same_slot, tells_slots}
 use Rattle.run_steps.proofs.TailOpened.{opened_now}
@@ -110,6 +112,7 @@ module _ {T W L D : Type 0} (words : Words T W L D) (start : Began D) (moments :
       following = λ is. begins_to_follow words.tails start shown later moments (lanings crew.lanes.items) phase (files_of so_far) stands.files;
       tell = stands.files.tell;
       left_tell = stands.files.left_tell;
+      listed = stands.files.listed;
       scans = stands.files.scans;
       shown = has;
       given = stands.files.given;
@@ -148,6 +151,7 @@ module _ {T W L D : Type 0} (words : Words T W L D) (start : Began D) (moments :
     -- and the keeper has noted nothing else
     pub notes_are : keeper.tracked.notes ≡ so_far.begun
     pub none_hidden : so_far.hidden ≡ []
+    pub none_scanned : so_far.scans ≡ []
     pub ends : EndsAt so_far.moments now.0
 
   -- the file of this slot, as it is opened by the rule of its input
@@ -188,6 +192,9 @@ module _ {T W L D : Type 0} (words : Words T W L D) (start : Began D) (moments :
 
       pub opened_as_listed : AllByRecursion (IsOpenedAsListed start.settings start.opening start.listed) more
       opened_as_listed = each_last (IsOpenedAsListed start.settings start.opening start.listed) was.opened one begins.stands.files.opened so.as_listed
+
+      pub listed : AllByRecursion (WasListedSo start.listed was.scans) more
+      listed = listed_first start.settings start.opening start.listed was.scans more begins.none_scanned opened_as_listed
 
       pub ruled : AllByRecursion (IsRuled start.settings) more
       ruled = each_last (IsRuled start.settings) was.opened one begins.stands.files.ruled (record {

@@ -251,6 +251,7 @@ module _ {T W L D : Type 0} (words : Words T W L D) (start : Began D) (moments :
           };
           tell = λ some. each_changed old.lanes new.lanes change (λ (h : Harvester T). IsSome (words.tails.told h.tail)) (subst (λ (t : T). IsSome (words.tails.told t)) (sym tail_same)) (reads.files.tell some);
           left_tell = reads.files.left_tell;
+          listed = reads.files.listed;
           scans = reads.files.scans;
           shown = shown;
           given = reads.files.given;

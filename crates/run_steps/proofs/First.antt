@@ -284,6 +284,7 @@ module _ {T W L D : Type 0} (words : Words T W L D) (start : Began D) (crew : Cr
         following = λ follows. absurd follows;
         tell = λ some. each_of_none (λ (h : Harvester T). IsSome (words.tails.told h.tail)) (lanings crew.lanes.items) none;
         left_tell = λ some. tt;
+        listed = λ some. tt;
         scans = record { none_with_once = λ once. refl; timed = given.given.among; known = λ some. tt };
         shown = has_shown;
         given = given.given;

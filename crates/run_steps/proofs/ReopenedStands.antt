@@ -54,6 +54,7 @@ use Rattle.run_steps.specs.Began.{Began}
 use Rattle.run_steps.specs.Beginning.{AdmitsAt}
 use Rattle.run_steps.specs.Begun.{AreBeginNotes, IsKeyed, IsRuled}
 use Rattle.run_steps.specs.Earlier.{AreEarlier, AreOfOneFile}
+use Rattle.run_steps.specs.ListedSo.{WasListedSo}
 use Rattle.run_steps.specs.OpenedAgain.{IsClosedLast, IsOpenedAgain, goes_on_behind}
 use Rattle.run_steps.specs.RunState.{Finished, Leaving, Reading}
 use Rattle.run_steps.specs.Releasing.{closing_of, with_events}
@@ -68,6 +69,7 @@ use Rattle.run_steps.proofs.BegunFolder.{both_are}
 use Rattle.run_steps.proofs.BegunNotes.{areas_more, counted_more, got_same, noted_more, stores_more}
 use Rattle.run_steps.proofs.EarlierMore.{one_more_earlier, slot_numbers, the_last}
 use Rattle.run_steps.proofs.Grounds.{all_backed}
+use Rattle.run_steps.proofs.ListedSo.{listed_again}
 use Rattle.run_steps.proofs.Openings.{adds_left, adds_opening, closed_at_once, still_open_now, with_more}
 use Rattle.run_steps.proofs.Ordering.{distinct_slots, slot_begun}
 use Rattle.run_steps.proofs.ReopenedFolder.{it_there, opened_again_done, others_left, with_it_there}
@@ -86,7 +88,7 @@ module _ {T W L D : Type 0} (words : Words T W L D) (reads : (disk : D) → IfSo
     (counts : (disk : D) (at : ℕ) (image : List ℕ) → at ≤ words.disks.moment disk → words.disks.images disk image → words.disks.images_since disk at image)
     (start : Began D) (moments : Option (List ℕ)) (a b : D) (now : ℕ) (shown : Option FolderHistory) (crew : Crew T W L) (keeper : Keeping) (so_far : SoFar)
     (stands : Stands words start (at_phase words start moments a b shown crew keeper Leaving) so_far) (follows : start.once ≡ false) (last : Opened) (closed : IsClosedLast (files_of so_far) last)
-    (next : Opened) (of_one : AreOfOneFile last next) (starts : start_in next ≡ goes_on_behind closed.left next.begin.size) (keyed_next : IsSome start.shown → IsKeyed next) where
+    (next : Opened) (of_one : AreOfOneFile last next) (starts : start_in next ≡ goes_on_behind closed.left next.begin.size) (keyed_next : IsSome start.shown → IsKeyed next) (listed_next : IsSome start.shown → WasListedSo start.listed so_far.scans next) where
   abbrev watch : Watch
   watch = watch_of start so_far.scans
 
@@ -378,6 +380,7 @@ module _ {T W L D : Type 0} (words : Words T W L D) (reads : (disk : D) → IfSo
               (shown_tells start.settings so_far next (words.tails.told harvester.tail) start.shown shown later stands.files.shown shows some) (stands.files.tell some);
           left_tell = still_tell;
           scans = stands.files.scans;
+          listed = λ some. listed_again start.listed so_far.scans so_far.earlier one so_far.opened closed.among (listed_next some) (stands.files.listed some);
           shown = has_shown;
           given = stands.files.given;
         };
@@ -477,6 +480,7 @@ module _ {T W L D : Type 0} (words : Words T W L D) (reads : (disk : D) → IfSo
           tell = stands.files.tell;
           left_tell = λ some. each_last (λ (l : Left). IsSome l.told) others left_one (still_tell some) (shown_tells start.settings so_far next told start.shown shown mid stands.files.shown shows some);
           scans = stands.files.scans;
+          listed = λ some. listed_again start.listed so_far.scans so_far.earlier one so_far.opened closed.among (listed_next some) (stands.files.listed some);
           shown = left_shown;
           given = stands.files.given;
         };

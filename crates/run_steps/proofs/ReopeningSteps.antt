@@ -41,6 +41,7 @@ use Rattle.run_steps.specs.Beginning.{AdmitsAt, AsksKey, Beginning, ClosesFile, 
 use Rattle.run_steps.specs.Begun.{IsKeyed, IsRuled}
 use Rattle.run_steps.specs.Earlier.{AreOfOneFile}
 use Rattle.run_steps.specs.FolderSeen.{FolderSeen}
+use Rattle.run_steps.specs.ListedSo.{WasListedSo, newest_files}
 use Rattle.run_steps.specs.OpenedAgain.{IsClosedLast, IsOpenedAgain, goes_on_behind}
 use Rattle.run_steps.specs.Releasing.{closing_of, with_events}
 use Rattle.run_steps.specs.Goes.{StepWords, Stop, moments_at}
@@ -59,6 +60,7 @@ use Rattle.run_steps.specs.declared.context.Context.{Context}
 use Rattle.run_steps.proofs.BeginningOne.{at_phase, stands_same}
 use Rattle.run_steps.proofs.BeginningSteps.{shown_tells}
 use Rattle.run_steps.proofs.BegunFolder.{error_shown, none_shown, unread_shown}
+use Rattle.run_steps.proofs.ListedSo.{listed_newest}
 use Rattle.run_steps.proofs.Notes.{none_told}
 use Rattle.run_steps.proofs.ReopenedStands.{after, is_opened_again, left_after, stands_again, stands_unread}
 use Rattle.run_steps.proofs.ScanSteps.{StandsAt, stands_at}
@@ -83,7 +85,7 @@ module _ {T W L D : Type 0} (words : Words T W L D) (reads : (disk : D) → IfSo
     (counts : (disk : D) (at : ℕ) (image : List ℕ) → at ≤ words.disks.moment disk → words.disks.images disk image → words.disks.images_since disk at image)
     (start : Began D) (moments : Option (List ℕ)) (a b : D) (known : KnownFile) (old : Beginning T W L) (so_far : SoFar)
     (stands : Stands words start (at_phase words start moments a b old.folder.told old.crew old.keeper Leaving) so_far) (follows : start.once ≡ false) (last : Opened) (closed : IsClosedLast (files_of so_far) last)
-    (is_known : IsKnownAs known so_far last closed) (ends : EndsAt so_far.moments known.file.now.0) where
+    (is_known : IsKnownAs known so_far last closed) (newest : Contains (newest_files start.listed so_far.scans) known.file.listed) (ends : EndsAt so_far.moments known.file.now.0) where
   abbrev StandsIn : Beginning T W L → SoFar → Type 0
   StandsIn new later = Stands words start (at_phase words start moments a b new.folder.told new.crew new.keeper Leaving) later
 
@@ -108,6 +110,7 @@ module _ {T W L D : Type 0} (words : Words T W L D) (reads : (disk : D) → IfSo
           following = λ follows. absurd follows;
           tell = stands.files.tell;
           left_tell = stands.files.left_tell;
+          listed = stands.files.listed;
           scans = stands.files.scans;
           shown = has;
           given = stands.files.given;
@@ -198,6 +201,24 @@ module _ {T W L D : Type 0} (words : Words T W L D) (reads : (disk : D) → IfSo
         of_told None some gave = absurd (let q : false ≡ true = some in cc)
         of_told (Some told) some gave = gave
 
+    -- by the entry with which the step was called, which the newest scan listed
+    listed_so : IsSome start.shown → WasListedSo start.listed so_far.scans next
+    listed_so some = by_case start.shown old.folder.told mid.folder.told stands.files.shown it.shown some
+      where
+        by_case : (first folder later : Option FolderHistory) → HasShown start.settings first folder (files_of so_far) → IsShown folder next (words.tails.told tail) later → IsSome first →
+            WasListedSo start.listed so_far.scans next
+        by_case None folder later was shows some = absurd (let no : false ≡ true = some in cc)
+        by_case (Some first) None later was shows some = absurd was
+        by_case (Some first) (Some folder) later was shows some =
+            listed_newest start.settings folder start.listed first so_far.scans was.scans known.file.listed newest next (let at = shows.opening in omega (arith, at)) (λ files there. record {
+              entry = known.file.listed;
+              there = there;
+              keyed = is_known.key ∙ ap Some of_one.key;
+              path_is = ap (λ (g : Begin). g.path) it.begin_is;
+              input_is = ap (λ (g : Begin). g.input) it.begin_is;
+              size_is = ap (λ (g : Begin). g.size) it.begin_is;
+            })
+
     abbrev one : Earlier
     one = record { opened = last; left = closed.left; next = next }
 
@@ -255,7 +276,7 @@ module _ {T W L D : Type 0} (words : Words T W L D) (reads : (disk : D) → IfSo
       its_shown = subst (λ (t : T). IsShown old.folder.told next (words.tails.told t) mid.folder.told) (sym follows_it.opened.tail_kept) it.shown
 
       abbrev later_so : SoFar
-      later_so = after words reads counts start moments a b known.file.now.0 old.folder.told old.crew old.keeper so_far stands follows last closed next of_one starts keyed new.keeper
+      later_so = after words reads counts start moments a b known.file.now.0 old.folder.told old.crew old.keeper so_far stands follows last closed next of_one starts keyed listed_so new.keeper
           (announced new.keeper taken.announces) harvester (turns harvester follows_it.opened) (known.file.slot.0 % length old.crew.lanes.items) new.crew admits others_are mid.folder.told its_shown
 
       pub record OpenedAgainSo : Type 0 where
@@ -272,10 +293,10 @@ module _ {T W L D : Type 0} (words : Words T W L D) (reads : (disk : D) → IfSo
         later = later_so;
         begin_so = it.begin_is;
         place = placed_now (words.tails.told tail) next old.folder.told mid.folder.told it.shown;
-        again = is_opened_again words reads counts start moments a b known.file.now.0 old.folder.told old.crew old.keeper so_far stands follows last closed next of_one starts keyed new.keeper
+        again = is_opened_again words reads counts start moments a b known.file.now.0 old.folder.told old.crew old.keeper so_far stands follows last closed next of_one starts keyed listed_so new.keeper
             (announced new.keeper taken.announces) harvester (turns harvester follows_it.opened) (known.file.slot.0 % length old.crew.lanes.items) new.crew admits others_are mid.folder.told its_shown;
         stands_so = subst (λ (f : FolderSeen). Stands words start (at_phase words start moments a b f.told new.crew new.keeper Leaving) later_so) (sym taken.folder)
-            (stands_again words reads counts start moments a b known.file.now.0 old.folder.told old.crew old.keeper so_far stands follows last closed next of_one starts keyed new.keeper
+            (stands_again words reads counts start moments a b known.file.now.0 old.folder.told old.crew old.keeper so_far stands follows last closed next of_one starts keyed listed_so new.keeper
             (announced new.keeper taken.announces) harvester (turns harvester follows_it.opened) (known.file.slot.0 % length old.crew.lanes.items) new.crew admits others_are mid.folder.told its_shown);
       }
 
@@ -295,9 +316,9 @@ module _ {T W L D : Type 0} (words : Words T W L D) (reads : (disk : D) → IfSo
             (with_shown (record { folder = new.folder; crew = old.crew; keeper = new.keeper }) refl (same ∙ opened.keeper)
             (closed_shown fresh tail (Ok (Key found.key)) found.asks mid opened new.folder.told up.closes.told))
         by_keeper (inr rose) = as_new
-            (left_after words reads counts start moments a b known.file.now.0 old.folder.told old.crew old.keeper so_far stands follows last closed next of_one starts keyed new.keeper
+            (left_after words reads counts start moments a b known.file.now.0 old.folder.told old.crew old.keeper so_far stands follows last closed next of_one starts keyed listed_so new.keeper
             (announced new.keeper rose) (words.tails.told tail) it.looks_are it.reads it.tail_is it.tells ends (words.tails.faults tail) mid.folder.told new.folder.told it.shown up.closes.told)
-            (stands_unread words reads counts start moments a b known.file.now.0 old.folder.told old.crew old.keeper so_far stands follows last closed next of_one starts keyed new.keeper
+            (stands_unread words reads counts start moments a b known.file.now.0 old.folder.told old.crew old.keeper so_far stands follows last closed next of_one starts keyed listed_so new.keeper
             (announced new.keeper rose) (words.tails.told tail) it.looks_are it.reads it.tail_is it.tells ends (words.tails.faults tail) mid.folder.told new.folder.told it.shown up.closes.told)
 
   -- ---- whatever it came to
@@ -332,7 +353,7 @@ module _ {T W L D F K B : Type 0} (words : StepWords T W L D F K B) (reads : (di
     (context : Context) (known : KnownFile) (result : Result Admission BeginError) (now : Stop T W L D F K B) (folder : F) (crew : Crew T W L) (keeper : Keeping)
     (may : MayOpenAgain words context known result (leaving now) (leaving (with_opened now folder crew keeper))) where
   pub is_reopening_step : IsReopeningStep words context known result (leaving now) (leaving (with_opened now folder crew keeper))
-  is_reopening_step start so_far by stands last closed is_known = by_result result reopens
+  is_reopening_step start so_far by stands last closed is_known newest = by_result result reopens
     where
       at : StandsAt words.all start (moments_at words now) now.crew now.storing.keeper.now now.storing.a.now now.storing.b.now Leaving (words.seen now.system.folder.now).told so_far known.file.now.0
       at = stands_at words.all start (moments_at words now) now.crew now.storing.keeper.now now.storing.a.now now.storing.b.now Leaving (words.seen now.system.folder.now).told so_far known.file.now.0 stands may.moment
@@ -358,7 +379,7 @@ module _ {T W L D F K B : Type 0} (words : StepWords T W L D F K B) (reads : (di
           StandsBehind words context known r start so_far last closed (leaving now) (leaving (with_opened now folder crew keeper))
       by_result (Ok Followed) is =
           let so = opened_again_so words.all reads counts start (moments_at words now) now.storing.a.now now.storing.b.now known (beginning_at words now) (record so_far { moments = so_far.moments ++ at.more })
-          at.stands (by.once ∙ may.follows) last closed_so known_so at.ends is.fresh is.follows.tail is.follows.keyed is.mid is.opened (record { folder = words.seen folder; crew = crew; keeper = keeper })
+          at.stands (by.once ∙ may.follows) last closed_so known_so newest at.ends is.fresh is.follows.tail is.follows.keyed is.mid is.opened (record { folder = words.seen folder; crew = crew; keeper = keeper })
           is.follows.follows in
           record {
             more = at.more;
@@ -372,14 +393,14 @@ module _ {T W L D F K B : Type 0} (words : StepWords T W L D F K B) (reads : (di
       by_result (Ok (Skipped why)) is = record {
         more = at.more;
         stands = not_followed words.all reads counts start (moments_at words now) now.storing.a.now now.storing.b.now known (beginning_at words now) (record so_far { moments = so_far.moments ++ at.more })
-            at.stands (by.once ∙ may.follows) last closed_so known_so at.ends (Skipped why) (λ same. let q : Skipped why ≡ Followed = same in cc) (record { folder = words.seen folder; crew = crew; keeper = keeper })
+            at.stands (by.once ∙ may.follows) last closed_so known_so newest at.ends (Skipped why) (λ same. let q : Skipped why ≡ Followed = same in cc) (record { folder = words.seen folder; crew = crew; keeper = keeper })
             is;
       }
       by_result (Ok Failed) is = record {
         more = at.more;
         stands = not_followed words.all reads counts start (moments_at words now) now.storing.a.now now.storing.b.now known (beginning_at words now) (record so_far { moments = so_far.moments ++ at.more })
-            at.stands (by.once ∙ may.follows) last closed_so known_so at.ends Failed (λ same. let q : Failed ≡ Followed = same in cc) (record { folder = words.seen folder; crew = crew; keeper = keeper }) is;
+            at.stands (by.once ∙ may.follows) last closed_so known_so newest at.ends Failed (λ same. let q : Failed ≡ Followed = same in cc) (record { folder = words.seen folder; crew = crew; keeper = keeper }) is;
       }
       by_result (Err what) is =
           ended_so words.all reads counts start (moments_at words now) now.storing.a.now now.storing.b.now known (beginning_at words now) (record so_far { moments = so_far.moments ++ at.more })
-          at.stands (by.once ∙ may.follows) last closed_so known_so at.ends what (record { folder = words.seen folder; crew = crew; keeper = keeper }) is
+          at.stands (by.once ∙ may.follows) last closed_so known_so newest at.ends what (record { folder = words.seen folder; crew = crew; keeper = keeper }) is

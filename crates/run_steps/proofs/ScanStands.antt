@@ -3,9 +3,12 @@ use Rattle.std.proofs.Common.{◌≡◌, ◌⊎◌, inl, inr, ⊎_elim, ℕ, ◌
 use Rattle.std.proofs.lemmas.Bool.{cases_lt}
 use Rattle.std.proofs.lemmas.List.{map-append}
 use Rattle.std.proofs.lemmas.List.Elements.{Contains-append_left}
+use Rattle.std.proofs.lemmas.Option.{slice_get_within}
 use Rattle.std.specs.Prelude.{slice_get}
 use Rattle.std.specs.List.{AllByRecursion}
+use Rattle.accounts.proofs.Grounded.{each_member}
 use Rattle.accounts.proofs.Lists.{each_last, each_then, in_order_then}
+use Rattle.accounts.proofs.Orderly.{member_is}
 use Rattle.accounts.proofs.Onward.{stands_with_more, told_by_other}
 use Rattle.accounts.specs.Hidden.{Hidden}
 use Rattle.accounts.specs.Opened.{Opened}
@@ -41,6 +44,7 @@ use Rattle.run_steps.specs.Began.{Began}
 use Rattle.run_steps.specs.Begun.{MayBegin}
 use Rattle.run_steps.specs.LastEpoch.{IsAnswered}
 use Rattle.run_steps.specs.LaterScans.{AreLaterScans, IsKnownScan, IsNextScan, LaterScan, ScansOn, WasMissed, WasNamed, told_in}
+use Rattle.run_steps.specs.ListedSo.{WasListedSo}
 use Rattle.run_steps.specs.ReadBehind.{ReadsBehind}
 use Rattle.run_steps.specs.RunState.{Phase, RunState}
 use Rattle.run_steps.specs.Shown.{HasDone, HasShown, IsStillOpen, WasClosedAs, WasClosedInTurn, WasOpenedSince, openings_of}
@@ -48,6 +52,7 @@ use Rattle.run_steps.specs.SoFar.{Earlier, Left, SoFar, files_of, first_opened, 
 use Rattle.run_steps.specs.Stands.{AreTurnedIn, HoldsWhereNoFault, IsLeftSo, Stands, watch_of}
 use Rattle.run_steps.proofs.EarlierOn.{earlier_watched}
 use Rattle.run_steps.proofs.LeftStill.{left_still}
+use Rattle.run_steps.proofs.ListedSo.{listed_on}
 use Rattle.run_steps.proofs.Openings.{below_all, earlier_stays, left_stays, still_stays, with_more}
 
 -- ---- what it says of files is said still
@@ -213,6 +218,23 @@ module _ {T W L D : Type 0} (words : Words T W L D) (start : Began D) (moments :
         by_case (Some before) (Some now) None done scans held some = absurd scans
         by_case (Some before) (Some now) (Some after) done scans held some = left_then before now after scans done Holds held stands.files.left
 
+    -- each opening was made before this scan
+    listed : IsSome start.shown → AllByRecursion (WasListedSo start.listed scanned_too.scans) (openings_within (files_of so_far))
+    listed some = by_case start.shown shown later stands.files.shown on some
+      where
+        by_case : (before now after : Option FolderHistory) → HasShown start.settings before now (files_of so_far) → ScansOn start.settings now scan after → IsSome before →
+            AllByRecursion (WasListedSo start.listed scanned_too.scans) (openings_within (files_of so_far))
+        by_case None now after done scans some_told = absurd (let no : false ≡ true = some_told in cc)
+        by_case (Some before) None after done scans some_told = absurd done
+        by_case (Some before) (Some now) None done scans some_told = absurd scans
+        by_case (Some before) (Some now) (Some after) done next some_told =
+            each_member (WasListedSo start.listed scanned_too.scans) (openings_within (files_of so_far)) (λ one there. listed_on start.listed so_far.scans scan one
+            (subst (λ (o : Option ToldScan). IfSome o (λ told. one.opening < length told.earlier.events)) (sym next.known.told_is)
+            (subst (λ (h : FolderHistory). one.opening < length h.events) (sym next.earlier_is)
+            (slice_get_within now.events one.opening (folders.Opened one.begin.path one.number one.begun)
+            (member_is (WasOpenedSince before (told_in so_far.scans) now) (openings_within (files_of so_far)) one done.opened there).stands)))
+            (member_is (WasListedSo start.listed so_far.scans) (openings_within (files_of so_far)) one (stands.files.listed some) there))
+
     turned : Pairs (AreTurnedIn words.tails (watch_of start scanned_too.scans) so_far.opened so_far.moments) so_far.lanes (lanings crew.lanes.items)
     turned = each_lane so_far.lanes (lanings crew.lanes.items) stands.files.turned
       where
@@ -275,6 +297,7 @@ module _ {T W L D : Type 0} (words : Words T W L D) (start : Began D) (moments :
         };
         tell = stands.files.tell;
         left_tell = stands.files.left_tell;
+        listed = listed;
         scans = scans_then start so_far.moments so_far.scans scan follows ends is_known stands.files.scans;
         shown = has_shown;
         given = stands.files.given;

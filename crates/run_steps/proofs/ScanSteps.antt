@@ -91,6 +91,7 @@ module _ {T W L D : Type 0} (words : Words T W L D) (start : Began D) (moments :
         following = stands.files.following;
         tell = stands.files.tell;
         left_tell = stands.files.left_tell;
+        listed = stands.files.listed;
         scans = scans_on start so_far.moments given.more so_far.scans stands.files.scans;
         shown = by_case start.shown shown stands.files.shown;
         given = given.given;

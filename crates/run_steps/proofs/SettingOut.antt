@@ -168,7 +168,7 @@ module _ {T W L D : Type 0} (words : Words T W L D) (reads : (disk : D) → IfSo
         (rows_same : new.keeper.store.rows ≡ old.keeper.store.rows)
         (result : Result BegunFiles BeginError) (hid : Keeping) (hides : HidesBegun settings.inputs listed begun_so result new.keeper hid) where
       pub further : Further words start (at_phase words start moments a b new.folder.told new.crew hid (phase_begun result))
-      further = stands_begun words reads counts start moments a b now old (so_far words start old.crew first.store first.pass a b moments settings.output made) stands_out refl refl
+      further = stands_begun words reads counts start moments a b now old (so_far words start old.crew first.store first.pass a b moments settings.output made) stands_out refl refl refl
           (given words start old.crew first.store first.pass a b moments settings.output made).ends sets.of_inputs begun_so result new hid begins ended rows_same hides
 
       pub rests : BeganAtRest words.disks start → IsAtRest words.disks hid a b
@@ -197,7 +197,7 @@ module _ {T W L D : Type 0} (words : Words T W L D) (reads : (disk : D) → IfSo
                 subst (λ (l : List Passing). IsServedAtEnd settings old.keeper.store.rows listed l ending.keeper.tracked.notes folder ending.shown) (sym (are ∙ ap (λ (b : BegunFiles). b.passed.items) hides_all.0))
                 (served_at_end words.tails settings old.keeper.store.rows now listed (came_of files) folder old new has.shown (since_earlier (told_scan start folder) (told_so start folder has))
                 (ap (λ (k : Keeping). k.tracked.notes) first.is) (ap (λ (b : BegunFiles). b.faulty) (sym hides_all.0) ∙ none_failed) all
-                (all_are_seen words reads counts start moments a b now old (so_far words start old.crew first.store first.pass a b moments settings.output made) stands_out refl refl
+                (all_are_seen words reads counts start moments a b now old (so_far words start old.crew first.store first.pass a b moments settings.output made) stands_out refl refl refl
                 (given words start old.crew first.store first.pass a b moments settings.output made).ends sets.of_inputs (came_of files) new all)
                 hid (subst (λ (l : List Row). TellsHidden settings.inputs listed l new.keeper hid) rows_same hides_all.1)
                 ending.keeper collects none_held events ending.shown then)

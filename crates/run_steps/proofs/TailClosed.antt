@@ -2,7 +2,7 @@
 use Rattle.std.proofs.Common.{◌≡◌, ◌≢◌, ◌⊎◌, inl, inr, ⊎_elim, ℕ, suc, ◌+◌, ◌≤◌, ◌<◌, ◌^◌, ◌-◌, false, drop, List, [], ◌∷◌, ◌++◌, Contains, length, length-append, map, append_assoc, Option, Some, None, IsSome, IfSome, refl, sym, ap, subst, ◌∙◌, arith}
 use Rattle.std.proofs.lemmas.List.{map-append}
 use Rattle.std.proofs.lemmas.List.Elements.{Contains-append_left, Contains-append_right}
-use Rattle.std.specs.List.{AllByRecursion, flat_map}
+use Rattle.std.specs.List.{AllByRecursion, flat_map, slice_get}
 use Rattle.accounts.specs.FollowedFile.{MayReopenAt}
 use Rattle.accounts.specs.Once.{AreOnce}
 use Rattle.accounts.specs.Opened.{IsTailOf, Opened}
@@ -472,6 +472,7 @@ module _ {T W L D : Type 0} (words : Words T W L D) (start : Began D) (moments :
           left_tell = λ some. each_last (λ (l : Left). IsSome l.told) so_far.left left_one (reads.files.left_tell some)
               (one_was one old.lanes new.lanes go (λ (h : Harvester T). IsSome (words.tails.told h.tail)) (reads.files.tell some));
           scans = reads.files.scans;
+          listed = reads.files.listed;
           shown = has_shown;
           given = reads.files.given;
         };

@@ -68,6 +68,7 @@ module _ {T W L D : Type 0} (words : Words T W L D) where
     following = λ is. followed (files.following (follows now.phase is));
     tell = files.tell;
     left_tell = files.left_tell;
+    listed = files.listed;
     shown = files.shown;
     scans = files.scans;
     given = files.given;
@@ -160,6 +161,7 @@ module _ {T W L D : Type 0} (words : Words T W L D) where
         following = λ follows. absurd follows;
         tell = stands.files.tell;
         left_tell = stands.files.left_tell;
+        listed = stands.files.listed;
         shown = stands.files.shown;
         scans = stands.files.scans;
         given = stands.files.given;

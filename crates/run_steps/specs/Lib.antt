@@ -30,6 +30,7 @@ pub mod LastEpoch
 pub mod LastSteps
 pub mod LaterScans
 pub mod Lent
+pub mod ListedSo
 pub mod Looking
 pub mod Met
 pub mod MetBy

@@ -1,7 +1,7 @@
 -- Opening a file again as a step of a run (this project's profile): only the folder, the lanes and the keeper are used, at the moment that the clock gave
 -- last, in a run that goes on whatever was told of its files. What stood before it stands after it, with the moment among those of the run: with one
 -- more opening before the last ones if the file is followed, and no other change if it is skipped or fails. If the call ends, something stands.
-use Rattle.std.specs.Prelude.{◌≡◌, ℕ, ◌++◌, false, length, List, IfSome, Result, Ok, Err, Some}
+use Rattle.std.specs.Prelude.{◌≡◌, ℕ, ◌++◌, false, length, List, Contains, IfSome, Result, Ok, Err, Some}
 use Rattle.accounts.specs.Opened.{Opened}
 use Rattle.harvester.specs.History.{told_to}
 use Rattle.keeper.specs.Keeping.{Keeping}
@@ -11,6 +11,7 @@ use Rattle.run_steps.specs.Began.{Began}
 use Rattle.run_steps.specs.BeginFor.{begin_for}
 use Rattle.run_steps.specs.Beginning.{Beginning}
 use Rattle.run_steps.specs.Goes.{StepWords, Stop, moments_at, state_at}
+use Rattle.run_steps.specs.ListedSo.{newest_files}
 use Rattle.run_steps.specs.OpenedAgain.{IsClosedLast, IsOpenedAgain}
 use Rattle.run_steps.specs.Onward.{BeganBy, rules_of}
 use Rattle.run_steps.specs.Reopening.{KnownFile, ReopensOne, goes_on_at}
@@ -69,11 +70,11 @@ module _ {T W L D F K B : Type 0} (words : StepWords T W L D F K B) (context : C
   StandsBehind (Ok Failed) start so_far last closed before now = StandsLater start so_far now
   StandsBehind (Err error) start so_far last closed before now = Further words.all start (state_at words now)
 
-  -- for each run of these settings that stands so, and that closed the last tail of the file
+  -- for each run of these settings that stands so, that closed the last tail of the file, and whose newest scan listed it so
   abbrev pub IsReopeningStep : Result Admission BeginError → Stop T W L D F K B → Stop T W L D F K B → Type 0
   IsReopeningStep result before after =
       (start : Began D) (so_far : SoFar) → BeganBy (rules_of context) start → Stands words.all start (state_at words before) so_far → (last : Opened) (closed : IsClosedLast (files_of so_far) last) →
-      IsKnownAs known so_far last closed → StandsBehind result start so_far last closed before after
+      IsKnownAs known so_far last closed → Contains (newest_files start.listed so_far.scans) known.file.listed → StandsBehind result start so_far last closed before after
 
   -- the run does not read its files once, the clock would give this moment again, and the step was made so
   pub record MayOpenAgain (result : Result Admission BeginError) (before after : Stop T W L D F K B) : Type 0 where

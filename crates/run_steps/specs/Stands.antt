@@ -36,8 +36,9 @@ use Rattle.run_steps.specs.LastEpoch.{AreToldInEpochs, HasAnswered, HasAnsweredW
 use Rattle.run_steps.specs.LaterScans.{AreLaterScans, LaterScan, WasMissed, WasNamed}
 use Rattle.run_steps.specs.ReadBehind.{ReadsBehind, ReadsWhereNoFault}
 use Rattle.run_steps.specs.RunState.{Finished, Following, Halted, HaltedFollowing, Leaving, OutOfEpochs, Phase, Reading, RunState}
+use Rattle.run_steps.specs.ListedSo.{WasListedSo}
 use Rattle.run_steps.specs.Shown.{HasGiven, HasShown}
-use Rattle.run_steps.specs.SoFar.{BooksSoFar, FilesSoFar, Left, NotesSoFar, SoFar, books_of, files_of, files_within, first_opened, notes_of}
+use Rattle.run_steps.specs.SoFar.{BooksSoFar, FilesSoFar, Left, NotesSoFar, SoFar, books_of, files_of, files_within, first_opened, notes_of, openings_within}
 
 -- ---- the files
 
@@ -183,6 +184,8 @@ pub record Files {T D : Type 0} (tails : TailWords T) (start : Began D) (now : F
   pub tell : IsSome start.shown → AllByRecursion (TellIn tails) now.lanes
   pub left_tell : IsSome start.shown → AllByRecursion (λ (one : Left). IsSome one.told) so_far.left
   pub scans : AreLaterScans start so_far.moments so_far.scans
+  -- each opening, the first ones and those that came later, was listed by a scan
+  pub listed : IsSome start.shown → AllByRecursion (WasListedSo start.listed so_far.scans) (openings_within so_far)
   pub shown : HasShown start.settings start.shown now.shown so_far
   pub given : HasGiven start.moments now.moments start.moment so_far.moments
 
