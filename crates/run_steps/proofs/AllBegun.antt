@@ -22,7 +22,7 @@ use Rattle.wire_base.specs.declared.parcel.Parcel.{Parcel}
 use Rattle.run_steps.specs.Began.{Began}
 use Rattle.run_steps.specs.Beginning.{Beginning}
 use Rattle.run_steps.specs.BeginsAll.{BeginsAll, BeginsFrom, BeginsSome, Came, IsOfRuledInput, came_of}
-use Rattle.run_steps.specs.Begun.{AreAllSeen, MayBegin, noted_begin}
+use Rattle.run_steps.specs.Begun.{AreAllSeen, IsOpenedAsListedFirst, MayBegin, noted_begin}
 use Rattle.run_steps.specs.HiddenRows.{HidesBegun}
 use Rattle.run_steps.specs.MetBy.{phase_reading}
 use Rattle.run_steps.specs.RunState.{Finished, Leaving, Reading}
@@ -117,6 +117,7 @@ module _ {T W L D : Type 0} (words : Words T W L D) (start : Began D) (moments :
     notes_are = none_noted_yet ∙ sym none_begun;
     none_hidden = none_hidden;
     none_scanned = none_scanned;
+    as_first = subst (AllByRecursion (IsOpenedAsListedFirst start.settings start.opening start.listed)) (sym none_opened) tt;
     ends = ends;
   }
 
@@ -205,7 +206,7 @@ module _ {T W L D : Type 0} (words : Words T W L D) (reads : (disk : D) → IfSo
         TellMoments start.opening 0 listed mid.keeper keeper → StandsUncollected words reads counts start moments a b mid.folder.told mid.crew Reading begins.so_far.opened keeper
     told_then slot listed mid keeper begins there tell =
         all_seen words reads counts start moments a b mid.folder.told mid.crew Reading begins.so_far.opened 0 listed mid.keeper keeper there tell
-        (record { so_far = begins.so_far; opened_are = refl; stands = begins.stands; notes_are = begins.notes_are; none_hidden = begins.none_hidden })
+        (record { so_far = begins.so_far; opened_are = refl; stands = begins.stands; notes_are = begins.notes_are; none_hidden = begins.none_hidden; as_first = begins.as_first })
 
     -- files are read on
     pub all_begun : (came : Came) (new : Beginning T W L) → BeginsAll words.tails start.settings start.opening now start.listed came old new →
@@ -221,7 +222,7 @@ module _ {T W L D : Type 0} (words : Words T W L D) (reads : (disk : D) → IfSo
         let begins = behind_all came is.mid is.begins in
         let there = listed_from 0 start.listed to_begin in
         let before : StandsUncollected words reads counts start moments a b is.mid.folder.told is.mid.crew Reading begins.so_far.opened is.mid.keeper =
-        record { so_far = begins.so_far; opened_are = refl; stands = begins.stands; notes_are = begins.notes_are; none_hidden = begins.none_hidden } in
+        record { so_far = begins.so_far; opened_are = refl; stands = begins.stands; notes_are = begins.notes_are; none_hidden = begins.none_hidden; as_first = begins.as_first } in
         are_all_seen words reads counts start moments a b is.mid.folder.told is.mid.crew Reading begins.so_far.opened is.mid.keeper new.keeper there is.tell before
         (all_seen words reads counts start moments a b is.mid.folder.told is.mid.crew Reading begins.so_far.opened 0 start.listed is.mid.keeper new.keeper there is.tell before)
 

@@ -93,6 +93,7 @@ module _ {T W L D : Type 0} (words : Words T W L D) (reads : (disk : D) → IfSo
     notes_are = begins.notes_are;
     none_hidden = begins.none_hidden;
     none_scanned = begins.none_scanned;
+    as_first = begins.as_first;
     ends = begins.ends;
   }
 
@@ -107,6 +108,7 @@ module _ {T W L D : Type 0} (words : Words T W L D) (reads : (disk : D) → IfSo
       notes_are = begins.notes_are;
       none_hidden = begins.none_hidden;
       none_scanned = begins.none_scanned;
+      as_first = begins.as_first;
       ends = begins.ends;
     }
 

@@ -30,7 +30,7 @@ use Rattle.wire_base.specs.declared.numbers.Moment.{Moment}
 use Rattle.wire_base.specs.declared.numbers.Slot.{Slot}
 use Rattle.run_steps.specs.Began.{Began}
 use Rattle.run_steps.specs.Beginning.{SameLanes}
-use Rattle.run_steps.specs.Begun.{AreBeginNotes, AreSlotsFrom, IsKeyed, IsOpenedAsListed, IsRuled, MayBegin, noted_begin}
+use Rattle.run_steps.specs.Begun.{AreBeginNotes, AreSlotsFrom, IsKeyed, IsOpenedAsListed, IsOpenedAsListedFirst, IsRuled, MayBegin, noted_begin}
 use Rattle.run_steps.specs.LaterScans.{LaterScan}
 use Rattle.run_steps.specs.LastEpoch.{HaveOneOver}
 use Rattle.run_steps.specs.ListedSo.{WasListedSo}
@@ -152,11 +152,13 @@ module _ {T W L D : Type 0} (words : Words T W L D) (start : Began D) (moments :
     pub notes_are : keeper.tracked.notes ≡ so_far.begun
     pub none_hidden : so_far.hidden ≡ []
     pub none_scanned : so_far.scans ≡ []
+    -- each file is one that the first scan listed
+    pub as_first : AllByRecursion (IsOpenedAsListedFirst start.settings start.opening start.listed) so_far.opened
     pub ends : EndsAt so_far.moments now.0
 
   -- the file of this slot, as it is opened by the rule of its input
   pub record IsBegunSo (slot : ℕ) (one : Opened) : Type 0 where
-    pub as_listed : IsOpenedAsListed start.settings start.opening start.listed one
+    pub as_listed : IsOpenedAsListedFirst start.settings start.opening start.listed one
     pub keyed : IsSome start.shown → IsKeyed one
     pub slot_is : one.begin.slot.0 ≡ slot
 
@@ -190,11 +192,14 @@ module _ {T W L D : Type 0} (words : Words T W L D) (start : Began D) (moments :
           let is = so.slot_is in
           omega (arith, below, is)
 
-      pub opened_as_listed : AllByRecursion (IsOpenedAsListed start.settings start.opening start.listed) more
-      opened_as_listed = each_last (IsOpenedAsListed start.settings start.opening start.listed) was.opened one begins.stands.files.opened so.as_listed
+      pub opened_as_listed : AllByRecursion (IsOpenedAsListed start.settings start.shown start.opening start.listed was.scans) more
+      opened_as_listed = each_last (IsOpenedAsListed start.settings start.shown start.opening start.listed was.scans) was.opened one begins.stands.files.opened (inl so.as_listed)
+
+      pub firsts_next : AllByRecursion (IsOpenedAsListedFirst start.settings start.opening start.listed) more
+      firsts_next = each_last (IsOpenedAsListedFirst start.settings start.opening start.listed) was.opened one begins.as_first so.as_listed
 
       pub listed : AllByRecursion (WasListedSo start.listed was.scans) more
-      listed = listed_first start.settings start.opening start.listed was.scans more begins.none_scanned opened_as_listed
+      listed = listed_first start.settings start.opening start.listed was.scans more begins.none_scanned firsts_next
 
       pub ruled : AllByRecursion (IsRuled start.settings) more
       ruled = each_last (IsRuled start.settings) was.opened one begins.stands.files.ruled (record {

@@ -19,7 +19,7 @@ use Rattle.ship_core.specs.Orderly.{AreOrderly}
 use Rattle.wire_base.specs.declared.note.Note.{Note}
 use Rattle.wire_base.specs.declared.row.Row.{Row}
 use Rattle.run_steps.specs.Began.{Began}
-use Rattle.run_steps.specs.Begun.{AreBeginNotes, IsOpenedAsListed, MayBegin, noted_begin}
+use Rattle.run_steps.specs.Begun.{AreBeginNotes, IsOpenedAsListedFirst, MayBegin, noted_begin}
 use Rattle.run_steps.specs.HiddenRows.{AreHiddenAmong, AreHiddenSoFar, TellsHidden, TellsSomeHidden, hidden_notes}
 use Rattle.run_steps.specs.RunState.{Phase}
 use Rattle.run_steps.specs.SoFar.{SoFar}
@@ -60,7 +60,7 @@ module _ {T W L D : Type 0} (words : Words T W L D) (reads : (disk : D) → IfSo
       where
         within : (file : Opened) → Contains was.opened file → file.begin.slot.0 < length start.listed
         within file among =
-            let listed = member_is (IsOpenedAsListed start.settings start.opening start.listed) was.opened file is.stands.files.opened among in
+            let listed = member_is (IsOpenedAsListedFirst start.settings start.opening start.listed) was.opened file is.as_first among in
             slice_get_within start.listed file.begin.slot.0 listed.one listed.listed_there
 
         by_kind : (note : Note) → MayBegin was.scans start.opening start.listed was.opened [] note → HasSlotBelow (length start.listed) note

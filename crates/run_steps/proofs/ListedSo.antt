@@ -18,7 +18,7 @@ use Rattle.told_scans.specs.ToldScan.{ToldScan}
 use Rattle.told_scans.specs.ToldScans.{AreToldFrom}
 use Rattle.wire_base.specs.declared.note.Begin.{Begin}
 use Rattle.wire_base.specs.declared.row.Row.{Row}
-use Rattle.run_steps.specs.Begun.{IsOpenedAsListed}
+use Rattle.run_steps.specs.Begun.{IsOpenedAsListedFirst}
 use Rattle.run_steps.specs.LaterScans.{LaterScan, WasMadeAfter, told_in}
 use Rattle.run_steps.specs.ListedSo.{IsByEntry, WasListedFirst, WasListedSo, newest_files}
 use Rattle.run_steps.specs.SoFar.{Earlier, opened_before, with_opening}
@@ -26,7 +26,7 @@ use Rattle.run_steps.proofs.WithOpening.{members}
 
 -- ---- as the first files are begun
 
-by_first_entry : (settings : Settings) (rows : List Row) (listed : List Listed) (one : Opened) → IsOpenedAsListed settings rows listed one → IsByEntry listed one
+by_first_entry : (settings : Settings) (rows : List Row) (listed : List Listed) (one : Opened) → IsOpenedAsListedFirst settings rows listed one → IsByEntry listed one
 by_first_entry settings rows listed one so = record {
   entry = so.one;
   there = got_there listed one.begin.slot.0 so.one so.listed_there;
@@ -37,8 +37,8 @@ by_first_entry settings rows listed one so = record {
 }
 
 pub listed_first : (settings : Settings) (rows : List Row) (listed : List Listed) (scans : List LaterScan) (opened : List Opened) → scans ≡ [] →
-    AllByRecursion (IsOpenedAsListed settings rows listed) opened → AllByRecursion (WasListedSo listed scans) opened
-listed_first settings rows listed scans opened none each = each_then (IsOpenedAsListed settings rows listed) (WasListedSo listed scans) opened
+    AllByRecursion (IsOpenedAsListedFirst settings rows listed) opened → AllByRecursion (WasListedSo listed scans) opened
+listed_first settings rows listed scans opened none each = each_then (IsOpenedAsListedFirst settings rows listed) (WasListedSo listed scans) opened
     (λ one so. inl (record {
       by_entry = by_first_entry settings rows listed one so;
       until = subst (AllByRecursion (WasMadeAfter one.opening)) (sym none) tt;

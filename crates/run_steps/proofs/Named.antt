@@ -12,7 +12,7 @@ use Rattle.prospect.specs.Doubled.{AreKeysApart, HaveKey}
 use Rattle.prospect.specs.declared.listed.Listed.{Listed}
 use Rattle.ship_core.proofs.Members.{none_there, there_cases}
 use Rattle.wire_base.specs.declared.row.Row.{Row}
-use Rattle.run_steps.specs.Begun.{IsOpenedAsListed}
+use Rattle.run_steps.specs.Begun.{IsOpenedAsListedFirst}
 use Rattle.accounts.proofs.Orderly.{member_is}
 
 -- ---- lists
@@ -42,7 +42,7 @@ slot_at_least least (first ∷ files) file slots there = by_case (there_cases fi
 
 module _ (settings : Settings) (rows : List Row) (listed : List Listed) (apart : AreKeysApart listed) where
   abbrev AsListed : Filed → Type 0
-  AsListed file = IsOpenedAsListed settings rows listed file.opened
+  AsListed file = IsOpenedAsListedFirst settings rows listed file.opened
 
   pub keys_apart : (least : ℕ) (files : List Filed) → AreInSlots least files → AllByRecursion AsListed files → AreDistinct (map key_in files)
   keys_apart least [] slots each = tt

@@ -29,7 +29,7 @@ use Rattle.wire_base.specs.declared.note.Begin.{Begin}
 use Rattle.wire_base.specs.declared.numbers.Slot.{Slot}
 use Rattle.run_steps.specs.Began.{Began}
 use Rattle.run_steps.specs.BeginFor.{start_among}
-use Rattle.run_steps.specs.Begun.{IsKeyed, IsOpenedAsListed}
+use Rattle.run_steps.specs.Begun.{IsKeyed, IsOpenedAsListed, IsOpenedAsListedFirst}
 use Rattle.run_steps.specs.Ends.{Ending, with_crew}
 use Rattle.run_steps.specs.LastEpoch.{IsLastOver, HaveOneOver, RanOutOfEpochs, falls_in}
 use Rattle.run_steps.specs.Releasing.{HasNoHarvesters}
@@ -45,6 +45,7 @@ use Rattle.run_steps.specs.declared.met.Met.{Met}
 use Rattle.run_steps.specs.declared.met.Met.TheVariants.{Epochs}
 use Rattle.told_scans.proofs.Members.{each_of, some_is}
 use Rattle.run_steps.proofs.EarlierOn.{opened_once}
+use Rattle.run_steps.proofs.ListedLater.{listed_first}
 use Rattle.run_steps.proofs.OpenedOnce.{stands_once}
 use Rattle.run_steps.proofs.FallsCounted.{falls_are, unanswered_at}
 use Rattle.run_steps.proofs.RunFiles.{none_turned}
@@ -105,8 +106,9 @@ module _ {T W L D : Type 0} (words : Words T W L D) (start : Began D) (ending : 
   abbrev file : Opened
   file = is_left.file
 
-  as_listed : IsOpenedAsListed start.settings start.opening start.listed file
-  as_listed = member_is (IsOpenedAsListed start.settings start.opening start.listed) so_far.opened file stands.files.opened is_left.among
+  as_listed : IsOpenedAsListedFirst start.settings start.opening start.listed file
+  as_listed = listed_first start.settings start.shown start.opening start.listed so_far.scans file (stands.files.scans.none_with_once once)
+      (member_is (IsOpenedAsListed start.settings start.shown start.opening start.listed so_far.scans) so_far.opened file stands.files.opened is_left.among)
 
   slot_is : file.begin.slot ≡ slot
   slot_is = sym is_left.is_told.slot ∙ last_over.is.of_slot

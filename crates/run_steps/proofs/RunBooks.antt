@@ -24,6 +24,7 @@ use Rattle.run_steps.specs.LaterScans.{LaterScan}
 use Rattle.run_steps.specs.SoFar.{SoFar, files_in}
 use Rattle.run_steps.specs.Stands.{AreNoted, HaveGiven}
 use Rattle.run_steps.proofs.LaterScans.{none_named}
+use Rattle.run_steps.proofs.ListedLater.{first_entry}
 use Rattle.run_steps.proofs.RunFiles.{moment_listed}
 use Rattle.accounts.proofs.Settling.{taken_weighs}
 
@@ -42,7 +43,7 @@ module _ (rows : List Row) (listed : List Listed) where
       of_files = of.among;
       moment = moment_noted rows of.one;
       is = of.is;
-      within = within (ap (λ (o : Option Listed). option_map_or (λ (entry : Listed). (moment_noted rows entry).0) o 0) of.listed_there);
+      within = within (ap (λ (o : Option Listed). option_map_or (λ (entry : Listed). (moment_noted rows entry).0) o 0) (first_entry scans listed of.file of.one none of.listed_there));
     }))
       where
         within : changed of.file ≡ (moment_noted rows of.one).0 → (moment_noted rows of.one).0 ≤ changed of.file

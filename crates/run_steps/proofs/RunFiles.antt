@@ -45,7 +45,7 @@ use Rattle.wire_base.specs.declared.row.Row.{Row}
 use Rattle.run_steps.specs.Telling.{moment_noted}
 use Rattle.run_steps.specs.Began.{Began}
 use Rattle.run_steps.specs.BeginFor.{row_of}
-use Rattle.run_steps.specs.Begun.{AreSlotsFrom, IsKeyed, IsOpenedAsListed}
+use Rattle.run_steps.specs.Begun.{AreSlotsFrom, IsKeyed, IsOpenedAsListed, IsOpenedAsListedFirst}
 use Rattle.run_steps.specs.ReadBehind.{ReadsBehind}
 use Rattle.run_steps.specs.Releasing.{HasNoHarvesters}
 use Rattle.run_steps.specs.RunOf.{FolderTold, run_of, scan_of, told_scan}
@@ -60,6 +60,7 @@ use Rattle.told_scans.proofs.Members.{each_of}
 use Rattle.prospect.proofs.Doubled.{keys_apart as files_keys_apart}
 use Rattle.prospect.specs.AskedFiles.{keyed_by}
 use Rattle.run_steps.proofs.EarlierOn.{opened_once}
+use Rattle.run_steps.proofs.ListedLater.{listed_first}
 use Rattle.run_steps.proofs.Named.{keys_apart}
 use Rattle.told_scans.proofs.FirstPaths.{is_first_path}
 use Rattle.told_scans.proofs.ScanAsked.{in_this_run}
@@ -212,8 +213,9 @@ module _ {T W L D : Type 0} (words : Words T W L D) (start : Began D) (state : R
         mapped_in : (some : List Filed) → Contains some file → Contains (map (λ (f : Filed). f.opened) some) file.opened
         mapped_in some there = mapped_there (λ (f : Filed). f.opened) some file there
 
-    pub as_listed : IsOpenedAsListed start.settings start.opening start.listed one
-    as_listed = member_is (IsOpenedAsListed start.settings start.opening start.listed) so_far.opened one stands.files.opened was_opened
+    pub as_listed : IsOpenedAsListedFirst start.settings start.opening start.listed one
+    as_listed = listed_first start.settings start.shown start.opening start.listed so_far.scans one none_later
+        (member_is (IsOpenedAsListed start.settings start.shown start.opening start.listed so_far.scans) so_far.opened one stands.files.opened was_opened)
 
     left_there : Contains (map (λ (l : Left). l.turned) so_far.left) file.turned
     left_there = subst (λ (l : List Turned). Contains l file.turned) files_are is_joined.among
@@ -442,7 +444,7 @@ module _ {T W L D : Type 0} (words : Words T W L D) (start : Began D) (state : R
   -- each has a key of its own
   pub files_apart : AreDistinct (map key_in files)
   files_apart = keys_apart start.settings start.opening start.listed (files_keys_apart (flat_map keyed_by folder.asked) start.listed start.doubled has.parts) 0 files in_slots
-      (each_member (λ (file : Filed). IsOpenedAsListed start.settings start.opening start.listed file.opened) files as_listed)
+      (each_member (λ (file : Filed). IsOpenedAsListedFirst start.settings start.opening start.listed file.opened) files as_listed)
 
   pub all_known_at_once : AllByRecursion (λ (f : Filed). IsNewlyKnown run [] (following_of f)) files
   all_known_at_once = known_at_once files joined.each

@@ -53,6 +53,7 @@ use Rattle.run_steps.specs.Stands.{AreTurnedIn, HoldsWhereNoFault, IsLeftSo, Sta
 use Rattle.run_steps.proofs.EarlierOn.{earlier_watched}
 use Rattle.run_steps.proofs.LeftStill.{left_still}
 use Rattle.run_steps.proofs.ListedSo.{listed_on}
+use Rattle.run_steps.proofs.ListedLater.{all_listed_on, entry_on}
 use Rattle.run_steps.proofs.Openings.{below_all, earlier_stays, left_stays, still_stays, with_more}
 
 -- ---- what it says of files is said still
@@ -84,7 +85,8 @@ module _ (scans : List LaterScan) (scan : LaterScan) where
   may_begin_on : (rows : List Row) (listed : List Listed) (opened : List Opened) (hiddens : List Hidden) (note : Note) → MayBegin scans rows listed opened hiddens note →
       MayBegin (scans ++ scan ∷ []) rows listed opened hiddens note
   may_begin_on rows listed opened hiddens note (inl of) = inl of
-  may_begin_on rows listed opened hiddens note (inr (inl of)) = inr (inl of)
+  may_begin_on rows listed opened hiddens note (inr (inl of)) =
+      inr (inl (record { file = of.file; among = of.among; one = of.one; listed_there = entry_on scans scan listed of.file of.one of.listed_there; is = of.is }))
   may_begin_on rows listed opened hiddens note (inr (inr (inl of))) = inr (inr (inl of))
   may_begin_on rows listed opened hiddens note (inr (inr (inr of))) =
       inr (inr (inr (record { file = of.file; among = of.among; name = of.name; named = named_on of.file of.name of.named; is = of.is })))
@@ -273,7 +275,7 @@ module _ {T W L D : Type 0} (words : Words T W L D) (start : Began D) (moments :
     pub stands_scanned : Stands words start (at later) scanned_too
     stands_scanned = record {
       files = record {
-        opened = stands.files.opened;
+        opened = all_listed_on start.settings start.shown start.opening start.listed so_far.scans scan (first_opened so_far.earlier so_far.opened) stands.files.opened;
         ruled = stands.files.ruled;
         keyed = stands.files.keyed;
         each_once = stands.files.each_once;

@@ -1,7 +1,8 @@
--- How files are begun (this project's profile): the one of a slot is the one that was listed at its place, from where its row stood on.
+-- How files are begun (this project's profile): the one of a slot is the one that the first scan listed at its place, from where its row stood on, or one
+-- that a later scan lists.
 -- Its Begin and the moment of its change are told to the keeper, and so are the paths by which later scans list it.
 -- Slots of hidden rows stand behind those of the files.
-use Rattle.std.specs.Prelude.{◌≡◌, ◌⊎◌, ℕ, ◌+◌, ◌≤◌, ◌<◌, List, [], ◌∷◌, Contains, slice_get, Some, IfSome}
+use Rattle.std.specs.Prelude.{◌≡◌, ◌⊎◌, ℕ, ◌+◌, ◌≤◌, ◌<◌, List, [], ◌∷◌, Contains, slice_get, Option, Some, IfSome}
 use Rattle.std.specs.List.{AllByRecursion}
 use Rattle.accounts.specs.Hidden.{Hidden, hidden_begin}
 use Rattle.accounts.specs.Opened.{Opened}
@@ -9,6 +10,7 @@ use Rattle.accounts.specs.ToldNotes.{IsOfHidden}
 use Rattle.event_tree.specs.declared.settings.Settings.{Settings}
 use Rattle.file_identity.specs.AskedAgain.{GivesKey}
 use Rattle.multiline_core.specs.Rule.{IsGroupRule}
+use Rattle.outside.specs.Folders.{FolderHistory}
 use Rattle.prospect.specs.declared.listed.Listed.{Listed}
 use Rattle.wire_base.specs.declared.note.Begin.{Begin as Beginning}
 use Rattle.wire_base.specs.declared.note.Note.{Note}
@@ -16,6 +18,7 @@ use Rattle.wire_base.specs.declared.note.Note.TheVariants.{Begin, Seen}
 use Rattle.wire_base.specs.declared.row.Row.{Row}
 use Rattle.run_steps.specs.BeginFor.{begin_for, start_among}
 use Rattle.run_steps.specs.LaterScans.{LaterScan}
+use Rattle.run_steps.specs.ListedLater.{GaveEntry, IsOpenedAsListedLater}
 use Rattle.run_steps.specs.Renamed.{IsRenameOf}
 use Rattle.run_steps.specs.Telling.{moment_noted}
 
@@ -23,14 +26,19 @@ use Rattle.run_steps.specs.Telling.{moment_noted}
 abbrev pub noted_begin : Beginning → Note
 noted_begin begin = Begin begin.slot begin.key begin.path begin.epoch begin.base (record { 0 = 0 })
 
--- it was opened as it was listed, by its path
-pub record IsOpenedAsListed (settings : Settings) (rows : List Row) (listed : List Listed) (opened : Opened) : Type 0 where
+-- it was opened as the first scan listed it, by its path
+pub record IsOpenedAsListedFirst (settings : Settings) (rows : List Row) (listed : List Listed) (opened : Opened) : Type 0 where
   pub one : Listed
   pub listed_there : slice_get listed opened.begin.slot.0 ≡ Some one
   pub keyed : one.key ≡ Some opened.begin.key
   pub begin_is : opened.begin ≡ begin_for opened.begin.slot one opened.begin.key (start_among rows one)
   pub rule_is : slice_get settings.inputs one.input ≡ Some opened.rule
   pub in_range : IsGroupRule opened.rule.multiline
+
+-- it was opened first by the first scan's entry, or by one of a later scan
+abbrev pub IsOpenedAsListed : Settings → Option FolderHistory → List Row → List Listed → List LaterScan → Opened → Type 0
+IsOpenedAsListed settings shown rows listed scans opened =
+    IsOpenedAsListedFirst settings rows listed opened ⊎ IsOpenedAsListedLater settings shown rows listed scans opened
 
 -- as it was opened, its file gave its key
 abbrev pub IsKeyed : Opened → Type 0
@@ -46,12 +54,17 @@ abbrev pub AreSlotsFrom : ℕ → List Opened → Type 0
 AreSlotsFrom least [] = Unit {0}
 AreSlotsFrom least (one ∷ others) = (least ≤ one.begin.slot.0) × AreSlotsFrom (one.begin.slot.0 + 1) others
 
+-- the entry is of the file: the first scan gave it at the place that is its slot, or a later one gave it, with its key
+abbrev pub IsEntryOf : List LaterScan → List Listed → Opened → Listed → Type 0
+IsEntryOf scans listed file one =
+    (slice_get listed file.begin.slot.0 ≡ Some one) ⊎ (GaveEntry scans one × (one.key ≡ Some file.begin.key))
+
 -- the note says when one of these was changed
-pub record IsSeenOf (rows : List Row) (listed : List Listed) (opened : List Opened) (note : Note) : Type 0 where
+pub record IsSeenOf (scans : List LaterScan) (rows : List Row) (listed : List Listed) (opened : List Opened) (note : Note) : Type 0 where
   pub file : Opened
   pub among : Contains opened file
   pub one : Listed
-  pub listed_there : slice_get listed file.begin.slot.0 ≡ Some one
+  pub listed_there : IsEntryOf scans listed file one
   pub is : note ≡ Seen file.begin.slot (moment_noted rows one)
 
 -- the note is the Begin of one of these
@@ -64,7 +77,7 @@ pub record IsBeginOfFile (opened : List Opened) (note : Note) : Type 0 where
 -- one of these
 abbrev pub MayBegin : List LaterScan → List Row → List Listed → List Opened → List Hidden → Note → Type 0
 MayBegin scans rows listed opened hiddens note =
-    IsBeginOfFile opened note ⊎ (IsSeenOf rows listed opened note ⊎ (IsOfHidden hiddens note ⊎ IsRenameOf scans opened note))
+    IsBeginOfFile opened note ⊎ (IsSeenOf scans rows listed opened note ⊎ (IsOfHidden hiddens note ⊎ IsRenameOf scans opened note))
 
 -- the notes that it gave, in whichever order: the Begin of each is among them
 pub record AreBeginNotes (scans : List LaterScan) (rows : List Row) (listed : List Listed) (opened : List Opened) (hiddens : List Hidden) (notes : List Note) : Type 0 where

@@ -31,6 +31,7 @@ pub mod LastSteps
 pub mod LaterScans
 pub mod Lent
 pub mod ListedSo
+pub mod ListedLater
 pub mod Looking
 pub mod Met
 pub mod MetBy

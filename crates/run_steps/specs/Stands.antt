@@ -167,7 +167,7 @@ pub record IsFollowing {T : Type 0} (tails : TailWords T) (began : Option Folder
   pub in_left : IsSome began → IfSome now.shown (λ folder. AllByRecursion (IsLeftAnswered folder) left)
 
 pub record Files {T D : Type 0} (tails : TailWords T) (start : Began D) (now : FilesNow T) (so_far : FilesSoFar) : Type 0 where
-  pub opened : AllByRecursion (IsOpenedAsListed start.settings start.opening start.listed) (first_opened so_far.earlier so_far.opened)
+  pub opened : AllByRecursion (IsOpenedAsListed start.settings start.shown start.opening start.listed so_far.scans) (first_opened so_far.earlier so_far.opened)
   pub ruled : AllByRecursion (IsRuled start.settings) so_far.opened
   pub keyed : IsSome start.shown → AllByRecursion IsKeyed so_far.opened
   pub each_once : AreEachOnce so_far.opened (files_within so_far)
