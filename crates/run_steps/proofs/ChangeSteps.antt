@@ -68,7 +68,7 @@ use Rattle.run_steps.proofs.ToldMoments.{stands_told}
 -- ---- lanes of which some harvesters heard of their files
 
 module _ {T : Type 0} (tails : TailWords T) where
-  record HearOnly (old new : List (Laning T)) : Type 0 where
+  pub record HearOnly (old new : List (Laning T)) : Type 0 where
     passes : lanes_passes new ≡ lanes_passes old
     many : length new ≡ length old
     harvesters : length (harvesters_of new) ≡ length (harvesters_of old)
@@ -76,7 +76,7 @@ module _ {T : Type 0} (tails : TailWords T) where
     ready : (queue desk : TableId) → AllByRecursion (IsLaneReady tails queue desk) old → AllByRecursion (IsLaneReady tails queue desk) new
     faults : SomeHarvester (HasFaults tails) old → SomeHarvester (HasFaults tails) new
 
-  hear_nothing : (lanes : List (Laning T)) → HearOnly lanes lanes
+  pub hear_nothing : (lanes : List (Laning T)) → HearOnly lanes lanes
   hear_nothing lanes = record { passes = refl; many = refl; harvesters = refl; begins = refl; ready = λ queue desk ready. ready; faults = λ some. some }
 
   hear_by_two : (first mid last : List (Laning T)) → HearOnly first mid → HearOnly mid last → HearOnly first last
@@ -177,7 +177,7 @@ module _ {T W L D F K B : Type 0} (words : StepWords T W L D F K B) (context : C
           pass = ap (λ (k : Keeping). k.pass.desk) tells.others_stay ∙ was.pass;
         }
 
-    keeps_heard : {Keepers : Keeping → Keeping → Type 0} → Keepers old_keeper keeper → Keeps words context Keepers None now later
+    pub keeps_heard : {Keepers : Keeping → Keeping → Type 0} → Keepers old_keeper keeper → Keeps words context Keepers None now later
     keeps_heard keepers = record {
       at_rest = λ goes rest. rests rest;
       ready = λ goes. record { able = able; is_open = ap (λ (s : Standing). s.closed) store_same ∙ ready.is_open };

@@ -7,20 +7,23 @@ use Rattle.accounts.specs.Opened.{Opened}
 use Rattle.accounts.specs.Turned.{Turned}
 use Rattle.keeper.specs.Keeping.{Keeping}
 use Rattle.lanes.specs.declared.lane.Lane.{Lane}
+use Rattle.prospect.specs.declared.listed.Listed.{Listed}
 use Rattle.rounds.specs.Crewed.{lanings}
 use Rattle.rounds.specs.Crewing.{crewing}
 use Rattle.wire_base.specs.declared.note.Note.{Note}
+use Rattle.wire_base.specs.declared.numbers.Moment.{Moment}
 use Rattle.wire_base.specs.declared.numbers.Slot.{Slot}
 use Rattle.run_steps.specs.Began.{Began}
 use Rattle.run_steps.specs.Changing.{EndsFile, LanesAndKeeper, NamesFile, StirsFile, rename_note}
 use Rattle.run_steps.specs.Goes.{Goes, Keeps, StepWords, Stop, state_at}
 use Rattle.run_steps.specs.LaterScans.{LaterScan}
+use Rattle.run_steps.specs.ListedLater.{IsListedAnew}
 use Rattle.run_steps.specs.Onward.{BeganBy, rules_of}
 use Rattle.run_steps.specs.Readiness.{IsReadyIn}
 use Rattle.run_steps.specs.Renamed.{IsNamedAnew, IsRemovedSince}
 use Rattle.run_steps.specs.SoFar.{Earlier, SoFar}
 use Rattle.run_steps.specs.Stands.{Stands}
-use Rattle.run_steps.specs.Telling.{TellsNotes}
+use Rattle.run_steps.specs.Telling.{TellsNotes, TellsSeen, moment_noted, seen_note}
 use Rattle.run_steps.specs.declared.changing.NewName.{NewName}
 use Rattle.run_steps.specs.declared.context.Context.{Context}
 
@@ -31,6 +34,10 @@ module _ {T W L D F K B : Type 0} where
 
   abbrev pub with_keeper : Stop T W L D F K B → Keeping → Stop T W L D F K B
   with_keeper stop keeper = record stop { storing = record stop.storing { keeper = record stop.storing.keeper { now = keeper } } }
+
+  -- when a file was changed, by this entry or by the row that the registry had of its key as the run began
+  abbrev pub moment_at : Stop T W L D F K B → Listed → Moment
+  moment_at stop entry = moment_noted stop.storing.keeper.now.tracked.opening entry
 
   -- what is said of the lanes, and of the keeper
   abbrev pub lanes_and_keeper : Stop T W L D F K B → LanesAndKeeper T
@@ -75,3 +82,8 @@ module _ {T W L D F K B : Type 0} (words : StepWords T W L D F K B) where
   RenamesAreChanges = (context : Context) (name : NewName) (now : Stop T W L D F K B) (lanes : Vec (Lane T) Global) (keeper : Keeping) → IsReadyAt words context now →
       NamesFile words.all.tails name (lanes_and_keeper now) (lanes_and_keeper (with_keeper (with_lanes now lanes) keeper)) →
       IsChange words context (IsNamedAnew name.slot (record { scan = name.scan; path = name.path })) (rename_note name ∷ []) now (with_keeper (with_lanes now lanes) keeper)
+
+  -- one that the newest scan listed, of which the keeper is told when it was changed
+  abbrev pub MomentsAreChanges : Type 0
+  MomentsAreChanges = (context : Context) (slot : Slot) (entry : Listed) (now : Stop T W L D F K B) (keeper : Keeping) → IsReadyAt words context now →
+      TellsSeen slot (moment_at now entry) now.storing.keeper.now keeper → IsChange words context (IsListedAnew slot entry) (seen_note slot (moment_at now entry) ∷ []) now (with_keeper now keeper)

@@ -1,5 +1,5 @@
 ghost use Rattle.std.specs.Prelude.{◌≤◌, ℕ, IfSome, List};
-ghost use Rattle.run_steps.specs.ChangeSteps.{EndsAreChanges, RenamesAreChanges, StirsAreChanges, StirsAreSteps};
+ghost use Rattle.run_steps.specs.ChangeSteps.{EndsAreChanges, MomentsAreChanges, RenamesAreChanges, StirsAreChanges, StirsAreSteps};
 ghost use Rattle.run_steps.specs.FollowingSteps.{BeginsToFollow, ClosingsAreSteps};
 ghost use Rattle.run_steps.specs.Goes.{step_words};
 ghost use Rattle.run_steps.specs.OpeningKeeps.{OpeningsAgainKeep};
@@ -22,10 +22,11 @@ pub fn scans_again_are_steps<F: Folder, L: Link, W: Wire<Link = L>, D: Disk, K: 
         (step_words F.Folder F.Tail.Tail L.Link W.Wire D.Disk K.Clock B.Bell) }
 {}
 
-/// What a run does with one of its files between two rounds is a step of it. After it stirs the file, or asks its harvester to end, what
-/// stood before stands; after it gives the file a new path and tells the keeper that, so it does, with that note. To stir a file supposes
-/// nothing. A whole scan after the file's last opening missed it before its harvester is asked to end, and the newest scan listed the
-/// file by its new path and by no other before it is renamed. A law; it computes nothing.
+/// What a run does with one of its files between two rounds is a step of it: it stirs the file, asks its harvester to end, gives it a
+/// new path and reports that to the keeper, or reports to the keeper when it was changed. What was known before is known after it, with
+/// the notes that it told. To stir a file supposes nothing. Before its harvester is asked to end, a whole scan after the file's last
+/// opening missed it; before it is renamed, the newest scan listed it by its new path and by no other; and the moment is that of the
+/// newest scan's entry of its key. A law; it computes nothing.
 pub fn changes_are_steps<F: Folder, L: Link, W: Wire<Link = L>, D: Disk, K: Clock, B: Bell>()
     ensures stirs { StirsAreChanges
         (step_words F.Folder F.Tail.Tail L.Link W.Wire D.Disk K.Clock B.Bell) }
@@ -34,6 +35,8 @@ pub fn changes_are_steps<F: Folder, L: Link, W: Wire<Link = L>, D: Disk, K: Cloc
     ensures ends { EndsAreChanges
         (step_words F.Folder F.Tail.Tail L.Link W.Wire D.Disk K.Clock B.Bell) }
     ensures renames { RenamesAreChanges
+        (step_words F.Folder F.Tail.Tail L.Link W.Wire D.Disk K.Clock B.Bell) }
+    ensures moments { MomentsAreChanges
         (step_words F.Folder F.Tail.Tail L.Link W.Wire D.Disk K.Clock B.Bell) }
 {
     disk_images_are_counted::<D>();

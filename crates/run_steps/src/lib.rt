@@ -56,5 +56,5 @@ pub use running::run_over;
 pub use scanning::{Rescan, scan_again};
 pub use settle::{settle_all, store_all};
 pub use starts::starts_of;
-pub use telling::tell_moments;
+pub use telling::{tell_moments, tell_seen};
 pub use working::{Worked, follow_begun, settle_after, work};

@@ -84,6 +84,37 @@ fn tell_moment(
     ensures kept { OnErr result (keeper.new ≡ keeper.old) }
 {
     let changed = moment_among(keeper.rows(), listed);
+    tell_changed(alloc, slot, changed, keeper)
+}
+
+/// Reports when a file was changed that a later scan listed, for the slot that the file has: as that scan listed it, or as its
+/// row has it if that is later. The rows are those that the registry had as the run began. A slot that has no Begin, or whose row is
+/// gone, has no note, and a moment of 0 is not noted. `Err` means out of memory, and leaves the keeper as it was.
+pub fn tell_seen(
+    alloc: Global,
+    slot: Slot,
+    listed: &Listed,
+    rows: &Rows,
+    keeper: &mut Keeper,
+) -> Result<(), NoMemory>
+    ensures told { OnOk result (TellsMoment slot
+        (moment_noted rows.now listed.now) keeper.old keeper.new) }
+    ensures kept { OnErr result (keeper.new ≡ keeper.old) }
+{
+    tell_changed(alloc, slot, moment_among(rows, listed), keeper)
+}
+
+/// Reports this moment for the slot, if it is above 0, the slot has a Begin, and its row is not gone.
+fn tell_changed(
+    alloc: Global,
+    slot: Slot,
+    changed: Moment,
+    keeper: &mut Keeper,
+) -> Result<(), NoMemory>
+    requires { IsMoment changed }
+    ensures told { OnOk result (TellsMoment slot changed keeper.old keeper.new) }
+    ensures kept { OnErr result (keeper.new ≡ keeper.old) }
+{
     if changed.0 == 0 || !is_followed(slot, keeper) {
         return Ok(());
     }
