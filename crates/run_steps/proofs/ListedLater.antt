@@ -1,5 +1,5 @@
 -- Files by the entries of later scans: without later scans there is none, and with one more those of the others stay.
-use Rattle.std.proofs.Common.{◌≡◌, ◌⊎◌, inl, inr, List, [], ◌∷◌, ◌++◌, Contains, Option, subst}
+use Rattle.std.proofs.Common.{◌≡◌, inl, inr, List, [], ◌∷◌, ◌++◌, Contains, Option, subst}
 use Rattle.std.proofs.lemmas.List.Elements.{Contains-append_left}
 use Rattle.std.specs.Prelude.{slice_get, Some}
 use Rattle.std.specs.List.{AllByRecursion}
@@ -12,7 +12,7 @@ use Rattle.ship_core.proofs.Members.{none_there}
 use Rattle.wire_base.specs.declared.row.Row.{Row}
 use Rattle.run_steps.specs.Begun.{IsEntryOf, IsOpenedAsListed, IsOpenedAsListedFirst}
 use Rattle.run_steps.specs.LaterScans.{LaterScan}
-use Rattle.run_steps.specs.ListedLater.{GaveEntry, IsOpenedAsListedLater}
+use Rattle.run_steps.specs.ListedLater.{GaveEntry}
 
 -- ---- without later scans
 

@@ -30,7 +30,7 @@ use Rattle.pass_sums.proofs.Weights.{weigh-append}
 use Rattle.rounds.specs.Words.{TailWords}
 use Rattle.ship_core.proofs.Members.{none_there, there_cases}
 use Rattle.ship_core.specs.Orderly.{AreOrderly}
-use Rattle.ship_core.specs.RowOver.{naming_of, span_in}
+use Rattle.ship_core.specs.RowOver.{naming_of, span_in, start_of}
 use Rattle.wire_base.specs.declared.numbers.Epoch.{Epoch}
 use Rattle.wire_base.specs.declared.numbers.Slot.{Slot}
 use Rattle.wire_base.specs.declared.note.Note.{Note}
@@ -147,6 +147,10 @@ announced_settles_none earlier note there = let of = is_announce earlier note th
 -- and names none
 pub announced_names_none : (earlier : List Earlier) (note : Note) → Contains (announced_in earlier) note → naming_of note ≡ None
 announced_names_none earlier note there = let of = is_announce earlier note there in ap naming_of of.is
+
+-- and begins none
+pub announced_begins_none : (earlier : List Earlier) (note : Note) → Contains (announced_in earlier) note → start_of note ≡ None
+announced_begins_none earlier note there = let of = is_announce earlier note there in ap start_of of.is
 
 pub distinct_slots : (least : ℕ) (opened : List Opened) → AreSlotsFrom least opened → AreDistinct (map (λ (one : Opened). one.begin.slot.0) opened)
 distinct_slots least [] rise = tt

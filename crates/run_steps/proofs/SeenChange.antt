@@ -1,7 +1,6 @@
 -- The moment at which a file was changed is told to the keeper by an entry of the newest scan: what stands of a run stands with that note.
-use Rattle.std.proofs.Common.{◌≡◌, inl, inr, ◌≤◌, ℕ, List, [], ◌∷◌, ◌++◌, Contains, IfSome, refl, sym, subst}
+use Rattle.std.proofs.Common.{inl, inr, ◌≤◌, ℕ, List, [], ◌∷◌, ◌++◌, Contains, IfSome, sym, subst}
 use Rattle.std.proofs.lemmas.List.Elements.{Contains-append_left, Contains-append_right}
-use Rattle.std.specs.List.{AllByRecursion}
 use Rattle.accounts.proofs.Lists.{each_last, each_then}
 use Rattle.accounts.proofs.Ordered.{one_more_orderly}
 use Rattle.accounts.specs.Hidden.{Hidden, hidden_begin}
@@ -12,7 +11,6 @@ use Rattle.rounds.specs.Crewed.{lanings}
 use Rattle.ship_core.proofs.Members.{first_there}
 use Rattle.wire_base.specs.declared.note.Note.{Note}
 use Rattle.wire_base.specs.declared.note.Note.TheVariants.{Seen}
-use Rattle.wire_base.specs.declared.numbers.Moment.{Moment}
 use Rattle.wire_base.specs.declared.numbers.Slot.{Slot}
 use Rattle.wire_base.specs.declared.row.Row.{Row}
 use Rattle.run_steps.specs.Began.{Began}
@@ -29,11 +27,14 @@ use Rattle.run_steps.proofs.ChangeSteps.{hear_nothing, keeps_heard}
 use Rattle.run_steps.proofs.FirstOpened.{first_named, first_within}
 use Rattle.run_steps.proofs.ToldMoments.{stands_told}
 
+pub newest_among : (scans : List LaterScan) (entry : Listed) (last : GaveEntryLast scans entry) → Contains scans last.scan
+newest_among scans entry last = subst (λ (l : List LaterScan). Contains l last.scan) (sym last.scans_are)
+    (Contains-append_right last.before (last.scan ∷ []) last.scan (first_there last.scan []))
+
 pub gave_last : (scans : List LaterScan) (entry : Listed) → GaveEntryLast scans entry → GaveEntry scans entry
 gave_last scans entry last = record {
   scan = last.scan;
-  of_scans = subst (λ (l : List LaterScan). Contains l last.scan) (sym last.scans_are)
-      (Contains-append_right last.before (last.scan ∷ []) last.scan (first_there last.scan []));
+  of_scans = newest_among scans entry last;
   among = last.among;
 }
 

@@ -39,6 +39,8 @@ pub mod MetIn
 pub mod Onward
 pub mod OpenedAgain
 pub mod OpeningKeeps
+pub mod OpenedFirst
+pub mod OpeningSteps
 pub mod Outset
 pub mod PassedOver
 pub mod Questions

@@ -3,6 +3,7 @@ ghost use Rattle.run_steps.specs.ChangeSteps.{EndsAreChanges, MomentsAreChanges,
 ghost use Rattle.run_steps.specs.FollowingSteps.{BeginsToFollow, ClosingsAreSteps};
 ghost use Rattle.run_steps.specs.Goes.{step_words};
 ghost use Rattle.run_steps.specs.OpeningKeeps.{OpeningsAgainKeep};
+ghost use Rattle.run_steps.specs.OpeningSteps.{OpeningsAreSteps, OpeningsKeepReady};
 ghost use Rattle.run_steps.specs.ReopeningSteps.{OpeningsAgainAreSteps};
 ghost use Rattle.run_steps.specs.ScanSteps.{ScansAreSteps};
 
@@ -62,3 +63,16 @@ pub fn following_goes_on<F: Folder, L: Link, W: Wire<Link = L>, D: Disk, K: Cloc
     ensures closes { ClosingsAreSteps
         (step_words F.Folder F.Tail.Tail L.Link W.Wire D.Disk K.Clock B.Bell) }
 {}
+
+/// A file that is opened for the first time after a later scan is a step of each run that scans its folder again: what stood before it
+/// stands after it, with one more file if the file is followed, and rounds may follow. It supposes that the newest scan gave the entry
+/// by which the file is opened, with at least the size of the place from which it is read, and that no file and no hidden row has its
+/// slot. A law; it computes nothing.
+pub fn openings_are_steps<F: Folder, L: Link, W: Wire<Link = L>, D: Disk, K: Clock, B: Bell>()
+    ensures steps { OpeningsAreSteps
+        (step_words F.Folder F.Tail.Tail L.Link W.Wire D.Disk K.Clock B.Bell) }
+    ensures ready { OpeningsKeepReady
+        (step_words F.Folder F.Tail.Tail L.Link W.Wire D.Disk K.Clock B.Bell) }
+{
+    disk_images_are_counted::<D>();
+}

@@ -40,7 +40,7 @@ pub use follow::{PAUSE_MS, met_behind, met_in, pause_where_still};
 pub use hidden::{hide_begun, tell_hidden};
 pub use laws::{
     changes_are_steps, disk_images_are_counted, following_goes_on, openings_again_are_steps,
-    scans_again_are_steps,
+    openings_are_steps, scans_again_are_steps,
 };
 pub use leave::{
     close_all, close_failed, close_resting, close_slot, close_tail, end_crew, end_lanes,

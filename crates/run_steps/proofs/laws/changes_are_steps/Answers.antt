@@ -1,5 +1,5 @@
 use Rattle.run_steps.specs.Goes.{step_words}
-use Rattle.run_steps.proofs.ChangeSteps.{ends_are_changes, ends_are_steps, renames_are_changes, stirs_are_changes, stirs_are_steps}
+use Rattle.run_steps.proofs.ChangeSteps.{ends_are_changes, renames_are_changes, stirs_are_changes, stirs_are_steps}
 use Rattle.run_steps.proofs.SeenChange.{moments_are_changes}
 use Rattle.run_steps.proofs.laws.changes_are_steps.Goals as goal
 
