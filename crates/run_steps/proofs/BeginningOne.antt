@@ -104,6 +104,7 @@ module _ {T W L D : Type 0} (words : Words T W L D) (start : Began D) (moments :
       turned = stands.files.turned;
       left = stands.files.left;
       earlier = stands.files.earlier;
+      forgotten = stands.files.forgotten;
       reading = λ is. stands.files.reading refl;
       finished = λ is some. absurd (not_finished is);
       over = over;

@@ -232,6 +232,7 @@ module _ {T W L D : Type 0} (words : Words T W L D) (start : Began D) (moments :
           turned = its.stand;
           left = reads.files.left;
           earlier = reads.files.earlier;
+          forgotten = reads.files.forgotten;
           reading = λ is. let were = reads.files.reading is in
               record { none_left = were.none_left; none_over = each_changed old.lanes new.lanes change (λ (h : Harvester T). h.reader.stage ≢ stage.Over) not_over were.none_over };
           finished = λ is some. each_file (λ (t : Turned). IsReadThrough t.history) (through_alike its.one its.other its.like) (reads.files.finished is some);

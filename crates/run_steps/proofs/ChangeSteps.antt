@@ -69,12 +69,12 @@ use Rattle.run_steps.proofs.ToldMoments.{stands_told}
 
 module _ {T : Type 0} (tails : TailWords T) where
   pub record HearOnly (old new : List (Laning T)) : Type 0 where
-    passes : lanes_passes new ≡ lanes_passes old
-    many : length new ≡ length old
-    harvesters : length (harvesters_of new) ≡ length (harvesters_of old)
-    begins : begins_of new ≡ begins_of old
-    ready : (queue desk : TableId) → AllByRecursion (IsLaneReady tails queue desk) old → AllByRecursion (IsLaneReady tails queue desk) new
-    faults : SomeHarvester (HasFaults tails) old → SomeHarvester (HasFaults tails) new
+    pub passes : lanes_passes new ≡ lanes_passes old
+    pub many : length new ≡ length old
+    pub harvesters : length (harvesters_of new) ≡ length (harvesters_of old)
+    pub begins : begins_of new ≡ begins_of old
+    pub ready : (queue desk : TableId) → AllByRecursion (IsLaneReady tails queue desk) old → AllByRecursion (IsLaneReady tails queue desk) new
+    pub faults : SomeHarvester (HasFaults tails) old → SomeHarvester (HasFaults tails) new
 
   pub hear_nothing : (lanes : List (Laning T)) → HearOnly lanes lanes
   hear_nothing lanes = record { passes = refl; many = refl; harvesters = refl; begins = refl; ready = λ queue desk ready. ready; faults = λ some. some }
@@ -329,7 +329,7 @@ module _ {T W L D F K B : Type 0} (words : StepWords T W L D F K B) where
           let newest : (one : Opened) → Contains (first_opened so_far.earlier so_far.opened) one → one.begin.slot ≡ name.slot → IsNewestName so_far.scans one as_name =
           λ one among of_slot. named.newest one (first_within so_far.earlier so_far.opened one among) of_slot in
           let orderly = rename_follows so_far.scans start.opening start.listed (first_opened so_far.earlier so_far.opened) so_far.hidden so_far.begun name.slot as_name first.one first.among first.slot_is newest
-          stands.notes.begun now.storing.keeper.now.tracked.notes so_far.collected so_far.earlier stands.notes.noted.mixed (all_told so_far) (flat so_far.told.acknowledged) ground names.followed.begun in
+          stands.notes.begun now.storing.keeper.now.tracked.notes so_far.collected so_far.earlier so_far.forgotten stands.notes.noted.mixed (all_told so_far) (flat so_far.told.acknowledged) ground names.followed.begun in
           record {
             lanes = still.lanes;
             stands = stands_told words.all reads counts start (moments_at words now) now.storing.a.now now.storing.b.now (words.seen now.system.folder.now).told (record now.crew { lanes = lanes }) now.phase

@@ -13,9 +13,9 @@ pub none_earlier : (watch : Watch) (shown : Option FolderHistory) (opened : List
 none_earlier watch shown opened moments =
     record { none_with_once = λ once. refl; each = tt; in_turn = tt; keyed = λ some. tt; tell = λ some. tt }
 
--- with none, whatever there was
+-- with none, and with no file forgotten, whatever there was
 abbrev pub opened_once : SoFar → SoFar
-opened_once so_far = record so_far { earlier = [] }
+opened_once so_far = record so_far { earlier = []; forgotten = [] }
 
 -- at later moments
 pub earlier_later : (watch : Watch) (shown : Option FolderHistory) (opened : List Opened) (moments more : List ℕ) (earlier : List Earlier) →

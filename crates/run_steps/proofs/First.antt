@@ -171,6 +171,7 @@ module _ {T W L D : Type 0} (words : Words T W L D) (start : Began D) (crew : Cr
       lanes = none_in (lanings crew.lanes.items);
       left = [];
       earlier = [];
+      forgotten = [];
       told = record { issued = []; noted = []; acknowledged = heard_by words.wires crew.carriers.items };
       begun = [];
       collected = [];
@@ -273,6 +274,7 @@ module _ {T W L D : Type 0} (words : Words T W L D) (start : Began D) (crew : Cr
         turned = turned_none words.tails (watch_of start []) [] given.since (lanings crew.lanes.items) none;
         left = tt;
         earlier = none_earlier (watch_of start []) start.shown [] given.since;
+        forgotten = tt;
         reading = λ is. record { none_left = refl; none_over = each_of_none (λ (h : Harvester T). h.reader.stage ≢ stage.Over) (lanings crew.lanes.items) none };
         finished = λ is some. absurd (let no : Reading ≡ Finished = is in cc);
         over = tt;

@@ -1,6 +1,7 @@
 -- What is known of a run grows in each step that tells its keeper nothing itself, in none and in two of them; and what a step supposes of the files stays known.
-use Rattle.std.proofs.Common.{ℕ, List, [], ◌∷◌, ◌++◌, Contains, append-nil, append_assoc, refl, sym, ap, subst, ◌∙◌}
+use Rattle.std.proofs.Common.{◌≢◌, ℕ, List, [], ◌∷◌, ◌++◌, Contains, append-nil, append_assoc, refl, sym, ap, subst, ◌∙◌}
 use Rattle.std.proofs.lemmas.List.Elements.{Contains-append_left}
+use Rattle.std.specs.List.{AllByRecursion}
 use Rattle.accounts.specs.Opened.{Opened}
 use Rattle.accounts.specs.Turned.{Turned}
 use Rattle.rounds.specs.Books.{Told}
@@ -16,7 +17,7 @@ use Rattle.run_steps.specs.Renamed.{IsRemovedSince}
 use Rattle.run_steps.specs.Reopening.{KnownFile}
 use Rattle.run_steps.specs.ReopeningSteps.{IsKnownAs}
 use Rattle.run_steps.specs.RunState.{RunState}
-use Rattle.run_steps.specs.SoFar.{Left, SoFar, files_of}
+use Rattle.run_steps.specs.SoFar.{Forgotten, Left, SoFar, files_of}
 use Rattle.run_steps.specs.Stands.{Further}
 
 -- ---- lists
@@ -41,6 +42,7 @@ grown_by_nothing so_far = record {
   scans = prefix_of_itself so_far.scans;
   opened = refl;
   hidden = refl;
+  forgotten = refl;
   earlier = refl;
   left = prefix_of_itself so_far.left;
   begun = refl;
@@ -53,6 +55,7 @@ grown_by_two first mid last one other = record {
   scans = prefix_of_prefix first.scans mid.scans last.scans one.scans other.scans;
   opened = other.opened ∙ one.opened;
   hidden = other.hidden ∙ one.hidden;
+  forgotten = other.forgotten ∙ one.forgotten;
   earlier = other.earlier ∙ one.earlier;
   left = prefix_of_prefix first.left mid.left last.left one.left other.left;
   begun = other.begun ∙ one.begun;
@@ -69,6 +72,7 @@ grown_turning so_far moments lanes told collected queued boxed = record {
   scans = prefix_of_itself so_far.scans;
   opened = refl;
   hidden = refl;
+  forgotten = refl;
   earlier = refl;
   left = prefix_of_itself so_far.left;
   begun = refl;
@@ -83,6 +87,7 @@ grown_storing so_far told collected queued boxed = record {
   scans = prefix_of_itself so_far.scans;
   opened = refl;
   hidden = refl;
+  forgotten = refl;
   earlier = refl;
   left = prefix_of_itself so_far.left;
   begun = refl;
@@ -96,6 +101,7 @@ grown_closing so_far lanes left = record {
   scans = prefix_of_itself so_far.scans;
   opened = refl;
   hidden = refl;
+  forgotten = refl;
   earlier = refl;
   left = prefix_of_more so_far.left (left ∷ []);
   begun = refl;
@@ -109,6 +115,7 @@ grown_hearing so_far lanes = record {
   scans = prefix_of_itself so_far.scans;
   opened = refl;
   hidden = refl;
+  forgotten = refl;
   earlier = refl;
   left = prefix_of_itself so_far.left;
   begun = refl;
@@ -122,6 +129,7 @@ grown_scanning so_far moments scan = record {
   scans = prefix_of_more so_far.scans (scan ∷ []);
   opened = refl;
   hidden = refl;
+  forgotten = refl;
   earlier = refl;
   left = prefix_of_itself so_far.left;
   begun = refl;
@@ -162,6 +170,7 @@ closed_last_still last before after grown closed = record {
   left_are = grown.left.are ∙ ap (λ (l : List Left). l ++ grown.left.more) closed.left_are ∙ append_assoc closed.before (closed.left ∷ closed.behind) grown.left.more;
   slot_is = closed.slot_is;
   may = closed.may;
+  not_forgotten = subst (AllByRecursion (λ (one : Forgotten). one.opened.begin.slot ≢ last.begin.slot)) (sym grown.forgotten) closed.not_forgotten;
 }
 
 -- nor does it matter what harvesters heard of their files, or what the run told its keeper
@@ -175,6 +184,7 @@ closed_last_changed last so_far lanes begun closed = record {
   left_are = closed.left_are;
   slot_is = closed.slot_is;
   may = closed.may;
+  not_forgotten = closed.not_forgotten;
 }
 
 -- and where it goes on

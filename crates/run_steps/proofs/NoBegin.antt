@@ -26,8 +26,8 @@ use Rattle.wire_base.specs.declared.parcel.Parcel.{Parcel}
 use Rattle.wire_base.specs.declared.row.Row.{Row}
 use Rattle.run_steps.specs.Begun.{AreBeginNotes, MayBegin}
 use Rattle.run_steps.specs.LaterScans.{LaterScan}
-use Rattle.run_steps.specs.SoFar.{Earlier, announced_in, first_opened}
-use Rattle.run_steps.proofs.Ordering.{announced_begins_none, same_slots}
+use Rattle.run_steps.specs.SoFar.{Earlier, Forgotten, noted_since, first_opened}
+use Rattle.run_steps.proofs.Ordering.{since_begins_none, same_slots}
 use Rattle.run_steps.proofs.ToldMoments.{some_start}
 
 -- ---- a place of a note
@@ -60,8 +60,8 @@ none_of slot (note ∷ some) other =
     ap (λ (b : Bool). if b then note ∷ notes_of slot some else notes_of slot some) (ne_eqb (slot_of note) slot (other note (first_there note some)))
     ∙ none_of slot some (λ x there. other x (later_there note x some there))
 
-module _ (scans : List LaterScan) (rows : List Row) (listed : List Listed) (opened : List Opened) (hiddens : List Hidden) (earlier : List Earlier) (notes begun collected : List Note)
-    (mixed : AreMixed (announced_in earlier ++ begun) collected notes) (are : AreBeginNotes scans rows listed (first_opened earlier opened) hiddens begun)
+module _ (scans : List LaterScan) (rows : List Row) (listed : List Listed) (opened : List Opened) (hiddens : List Hidden) (earlier : List Earlier) (forgotten : List Forgotten) (notes begun collected : List Note)
+    (mixed : AreMixed (noted_since earlier forgotten ++ begun) collected notes) (are : AreBeginNotes scans rows listed (first_opened earlier opened) hiddens begun)
     (files : List Turned) (acknowledged : List Parcel) (ground : AllByRecursion (HasGround files acknowledged) collected) (slot : Slot)
     (no_file : (one : Opened) → Contains opened one → one.begin.slot ≢ slot) (no_hidden : (hidden : Hidden) → Contains hiddens hidden → hidden.slot ≢ slot) where
   no_first : (one : Opened) → Contains (first_opened earlier opened) one → one.begin.slot.0 ≡ slot.0 → ⊥
@@ -75,11 +75,11 @@ module _ (scans : List LaterScan) (rows : List Row) (listed : List Listed) (open
 
   begins_none : (note : Note) (start : Start) → Contains notes note → slot_of note ≡ slot.0 → start_of note ≡ Some start → ⊥
   begins_none note start there of_slot starts = ⊎_elim
-      (λ told. ⊎_elim (λ announced. no_start note start (announced_begins_none earlier note announced) starts)
-      (λ here. by_kind (member_is (MayBegin scans rows listed (first_opened earlier opened) hiddens) begun note are.each here)) (Contains-append_cases (announced_in earlier) begun note told))
+      (λ told. ⊎_elim (λ announced. no_start note start (since_begins_none earlier forgotten note announced) starts)
+      (λ here. by_kind (member_is (MayBegin scans rows listed (first_opened earlier opened) hiddens) begun note are.each here)) (Contains-append_cases (noted_since earlier forgotten) begun note told))
       (λ got. no_start note start (starts_none files acknowledged note (member_is (HasGround files acknowledged) collected note ground got)) starts)
-      (Contains-append_cases (announced_in earlier ++ begun) collected note
-      (often_contains same_note tells_notes ((announced_in earlier ++ begun) ++ collected) notes note (often_back notes ((announced_in earlier ++ begun) ++ collected) mixed.often) there))
+      (Contains-append_cases (noted_since earlier forgotten ++ begun) collected note
+      (often_contains same_note tells_notes ((noted_since earlier forgotten ++ begun) ++ collected) notes note (often_back notes ((noted_since earlier forgotten ++ begun) ++ collected) mixed.often) there))
     where
       of_hidden : (hidden : Hidden) → Contains hiddens hidden → (note ≡ hidden_begin hidden) ⊎ (note ≡ hidden_forget hidden) → ⊥
       of_hidden hidden among (inl is) = no_hidden hidden among (let same = ap slot_of (sym is) ∙ of_slot in (λ k. record { 0 = same k }))

@@ -1,4 +1,4 @@
--- A run that reads its files once opens none again: what stands of it is what stands with no openings before the last ones.
+-- A run that reads its files once opens none again and forgets none: what stands of it is what stands with no openings before the last ones.
 use Rattle.std.proofs.Common.{◌≡◌, ℕ, true, List, [], refl, sym, subst}
 use Rattle.event_tree.specs.declared.settings.Settings.{Settings}
 use Rattle.outside.specs.Folders.{FolderHistory}
@@ -12,16 +12,19 @@ use Rattle.run_steps.specs.CarriersEnd.{EndsCarriers}
 use Rattle.run_steps.specs.Ends.{Ending, Ends, IsAllSettled, with_crew}
 use Rattle.run_steps.specs.Met.{AreLeft}
 use Rattle.run_steps.specs.RunState.{Finished, Halted, OutOfEpochs, RunState}
-use Rattle.run_steps.specs.SoFar.{Earlier, SoFar}
+use Rattle.run_steps.specs.SoFar.{Earlier, Forgotten, SoFar}
 use Rattle.run_steps.specs.Stands.{Stands}
 use Rattle.run_steps.specs.declared.met.Met.{Met}
 use Rattle.run_steps.specs.declared.met.Met.TheVariants.{Done, Epochs, Stopped}
 use Rattle.run_steps.proofs.EarlierOn.{opened_once}
+use Rattle.run_steps.proofs.ForgottenOn.{none_forgotten}
 
 module _ {T W L D : Type 0} (words : Words T W L D) (start : Began D) where
   pub stands_once : (state : RunState T W L D) (so_far : SoFar) → start.once ≡ true → Stands words start state so_far → Stands words start state (opened_once so_far)
   stands_once state so_far once stands =
-      subst (λ (l : List Earlier). Stands words start state (record so_far { earlier = l })) (stands.files.earlier.none_with_once once) stands
+      subst (λ (l : List Forgotten). Stands words start state (record so_far { earlier = []; forgotten = l }))
+      (none_forgotten so_far.scans so_far.opened so_far.left so_far.forgotten (stands.files.scans.none_with_once once) stands.files.forgotten)
+      (subst (λ (l : List Earlier). Stands words start state (record so_far { earlier = l })) (stands.files.earlier.none_with_once once) stands)
 
   module _ (ending : Ending D) (met : Met) (unused wires : List W) where
     -- how a run ends that opened each file once

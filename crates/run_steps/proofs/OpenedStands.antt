@@ -50,10 +50,12 @@ use Rattle.run_steps.specs.OpenedFirst.{IsFreeSlot, IsOpenedFirst, put_opened}
 use Rattle.run_steps.specs.RunState.{Finished, Leaving, Reading}
 use Rattle.run_steps.specs.Releasing.{closing_of, with_events}
 use Rattle.run_steps.specs.Shown.{HasShown, IsTurnedIn, WasClosedAs}
+use Rattle.run_steps.specs.Forgotten.{AreForgotten, IsForgottenSo}
 use Rattle.run_steps.specs.ListedSo.{WasListedSo}
-use Rattle.run_steps.specs.SoFar.{Earlier, Left, SoFar, all_told, announced_in, files_in, files_of, first_opened, opened_before, told_before}
+use Rattle.run_steps.specs.SoFar.{Earlier, Left, SoFar, all_told, files_in, files_of, first_opened, noted_since, opened_before, told_before}
 use Rattle.run_steps.specs.Stands.{AreEachOnce, AreNoted, AreTurnedIn, HaveGiven, IsLeftSo, Notes, Stands, watch_of}
 use Rattle.run_steps.specs.Telling.{TellsNotes}
+use Rattle.run_steps.proofs.ForgottenOn.{forgotten_left, still_forgotten}
 use Rattle.run_steps.proofs.Admitting.{TurnedWith, all_of, booked_by, each_still, notes_same, often_mapped, parcels_same, passes_same, placed_by, spans_often, spans_same, turned_at}
 use Rattle.run_steps.proofs.BeginningOne.{at_phase}
 use Rattle.run_steps.proofs.BeginningSteps.{shown_tells}
@@ -112,6 +114,10 @@ module _ {T W L D : Type 0} (words : Words T W L D) (reads : (disk : D) → IfSo
 
   abbrev note_told : Note
   note_told = noted_begin one.begin
+
+  still_forgotten_so : AreForgotten so_far.scans now_opened so_far.left so_far.forgotten
+  still_forgotten_so = each_then (IsForgottenSo so_far.scans so_far.opened so_far.left) (IsForgottenSo so_far.scans now_opened so_far.left) so_far.forgotten
+      (λ file so. still_forgotten so_far.scans so_far.opened now_opened so_far.left so_far.left file so (put_others one so_far.opened file.opened so.among) so.of_left) stands.files.forgotten
 
   other : (x : Opened) → Contains so_far.opened x → HasOther one x
   other x there same = free.no_file x there (λ k. record { 0 = same k })
@@ -217,7 +223,7 @@ module _ {T W L D : Type 0} (words : Words T W L D) (reads : (disk : D) → IfSo
         let ground = have_ground (lanings crew.lanes.items) crew.carriers.items so_far.queued (notes keeper.pass.got) so_far.boxed so_far.told (all_told so_far) stands.books.gave stands.books.placed
         (all_told so_far) (λ h. refl) so_far.collected (held_in keeper.held) stands.notes.noted.got in
         one_more_orderly keeper.tracked.notes note_told stands.notes.noted.mixed.orderly
-        (nothing_noted so_far.scans start.opening start.listed so_far.opened so_far.hidden so_far.earlier keeper.tracked.notes so_far.begun so_far.collected stands.notes.noted.mixed stands.notes.begun
+        (nothing_noted so_far.scans start.opening start.listed so_far.opened so_far.hidden so_far.earlier so_far.forgotten keeper.tracked.notes so_far.begun so_far.collected stands.notes.noted.mixed stands.notes.begun
         (all_told so_far) (flat so_far.told.acknowledged) ground one.begin.slot free.no_file free.no_hidden)
 
     begun : AreBeginNotes so_far.scans start.opening start.listed (put_opened one firsts) so_far.hidden told_begun
@@ -234,13 +240,13 @@ module _ {T W L D : Type 0} (words : Words T W L D) (reads : (disk : D) → IfSo
           (λ h there. Contains-append_left so_far.begun (note_told ∷ []) (hidden_begin h) there) stands.notes.begun.hidden_begun;
     }
 
-    notes_now : Notes start new_keeper (record { scans = so_far.scans; opened = first_opened so_far.earlier now_opened; hidden = so_far.hidden; announced = announced_in so_far.earlier; begun = told_begun; collected = so_far.collected })
+    notes_now : Notes start new_keeper (record { scans = so_far.scans; opened = first_opened so_far.earlier now_opened; hidden = so_far.hidden; since = noted_since so_far.earlier so_far.forgotten; begun = told_begun; collected = so_far.collected })
     notes_now = record {
       counted = counted_more (note_told ∷ []) keeper new_keeper tells stands.notes.counted;
       begun = subst (λ (l : List Opened). AreBeginNotes so_far.scans start.opening start.listed l so_far.hidden told_begun) (sym firsts_are) begun;
       hidden = stands.notes.hidden;
-      noted = subst (λ (l : List Note). AreNoted start.opening new_keeper l so_far.collected) (append_assoc (announced_in so_far.earlier) so_far.begun (note_told ∷ []))
-          (noted_more (note_told ∷ []) keeper new_keeper tells start.opening (announced_in so_far.earlier ++ so_far.begun) so_far.collected orderly stands.notes.noted);
+      noted = subst (λ (l : List Note). AreNoted start.opening new_keeper l so_far.collected) (append_assoc (noted_since so_far.earlier so_far.forgotten) so_far.begun (note_told ∷ []))
+          (noted_more (note_told ∷ []) keeper new_keeper tells start.opening (noted_since so_far.earlier so_far.forgotten ++ so_far.begun) so_far.collected orderly stands.notes.noted);
       stores = stores_more (note_told ∷ []) keeper new_keeper tells stands.notes.stores;
     }
 
@@ -320,6 +326,7 @@ module _ {T W L D : Type 0} (words : Words T W L D) (reads : (disk : D) → IfSo
           turned = with_it.stand;
           left = still_left;
           earlier = earlier;
+          forgotten = still_forgotten_so;
           reading = λ is. absurd (let no : Leaving ≡ Reading = is in cc);
           finished = λ is some. absurd (let no : Leaving ≡ Finished = is in cc);
           over = tt;
@@ -419,6 +426,7 @@ module _ {T W L D : Type 0} (words : Words T W L D) (reads : (disk : D) → IfSo
             in_epochs = (inl refl, tt);
           });
           earlier = earlier;
+          forgotten = forgotten_left so_far.scans now_opened so_far.left (left_one ∷ []) so_far.forgotten still_forgotten_so;
           reading = λ is. absurd (let no : Leaving ≡ Reading = is in cc);
           finished = λ is some. absurd (let no : Leaving ≡ Finished = is in cc);
           over = tt;

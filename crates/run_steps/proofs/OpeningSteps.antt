@@ -100,6 +100,7 @@ module _ {T W L D : Type 0} (words : Words T W L D) (reads : (disk : D) → IfSo
           turned = stands.files.turned;
           left = stands.files.left;
           earlier = stands.files.earlier;
+          forgotten = stands.files.forgotten;
           reading = λ is. absurd (let no : Leaving ≡ Reading = is in cc);
           finished = λ is some. absurd (let no : Leaving ≡ Finished = is in cc);
           over = tt;

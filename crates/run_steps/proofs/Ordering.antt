@@ -45,7 +45,7 @@ use Rattle.wire_base.specs.declared.row.Row.{Row}
 use Rattle.run_steps.specs.Begun.{AreBeginNotes, AreSlotsFrom, IsRuled, MayBegin, noted_begin}
 use Rattle.run_steps.specs.Earlier.{AreInTurn, IsEarlierSo}
 use Rattle.run_steps.specs.LaterScans.{LaterScan}
-use Rattle.run_steps.specs.SoFar.{Earlier, Left, announced_by, announced_in, as_opened, first_opened, told_before, with_opening}
+use Rattle.run_steps.specs.SoFar.{Earlier, Forgotten, Left, announced_by, announced_in, as_opened, first_opened, forget_of, forgets_in, told_before, noted_since, with_opening}
 use Rattle.run_steps.specs.Stands.{AreEachOnce, AreTurnedIn, IsLeftSo}
 use Rattle.run_steps.proofs.EarlierApart.{IsToldBefore, IsToldSince, settle_apart}
 use Rattle.run_steps.proofs.Filing.{Arranged, arranged}
@@ -145,12 +145,25 @@ announced_settles_none : (earlier : List Earlier) (note : Note) → Contains (an
 announced_settles_none earlier note there = let of = is_announce earlier note there in λ epoch. ap (span_in epoch) of.is
 
 -- and names none
-pub announced_names_none : (earlier : List Earlier) (note : Note) → Contains (announced_in earlier) note → naming_of note ≡ None
+announced_names_none : (earlier : List Earlier) (note : Note) → Contains (announced_in earlier) note → naming_of note ≡ None
 announced_names_none earlier note there = let of = is_announce earlier note there in ap naming_of of.is
 
 -- and begins none
-pub announced_begins_none : (earlier : List Earlier) (note : Note) → Contains (announced_in earlier) note → start_of note ≡ None
+announced_begins_none : (earlier : List Earlier) (note : Note) → Contains (announced_in earlier) note → start_of note ≡ None
 announced_begins_none earlier note there = let of = is_announce earlier note there in ap start_of of.is
+
+-- and so does a Forget
+since_settles_none : (earlier : List Earlier) (forgotten : List Forgotten) (note : Note) → Contains (noted_since earlier forgotten) note → SettlesNothing note
+since_settles_none earlier forgotten note there = ⊎_elim (announced_settles_none earlier note)
+    (λ forgets. let of = of_map forget_of forgotten note forgets in λ epoch. ap (span_in epoch) (sym of.is)) (Contains-append_cases (announced_in earlier) (forgets_in forgotten) note there)
+
+pub since_begins_none : (earlier : List Earlier) (forgotten : List Forgotten) (note : Note) → Contains (noted_since earlier forgotten) note → start_of note ≡ None
+since_begins_none earlier forgotten note there = ⊎_elim (announced_begins_none earlier note)
+    (λ forgets. let of = of_map forget_of forgotten note forgets in ap start_of (sym of.is)) (Contains-append_cases (announced_in earlier) (forgets_in forgotten) note there)
+
+pub since_names_none : (earlier : List Earlier) (forgotten : List Forgotten) (note : Note) → Contains (noted_since earlier forgotten) note → naming_of note ≡ None
+since_names_none earlier forgotten note there = ⊎_elim (announced_names_none earlier note)
+    (λ forgets. let of = of_map forget_of forgotten note forgets in ap naming_of (sym of.is)) (Contains-append_cases (announced_in earlier) (forgets_in forgotten) note there)
 
 pub distinct_slots : (least : ℕ) (opened : List Opened) → AreSlotsFrom least opened → AreDistinct (map (λ (one : Opened). one.begin.slot.0) opened)
 distinct_slots least [] rise = tt
@@ -194,11 +207,11 @@ same_slots (one ∷ earlier) opened = each (first_opened earlier opened) ∙ sam
     each [] = refl
     each (other ∷ some) = (λ k. slot_stays one.opened other k ∷ each some k)
 
-module _ (scans : List LaterScan) (rows : List Row) (listed : List Listed) (opened : List Opened) (hiddens : List Hidden) (earlier : List Earlier) (notes begun collected : List Note)
-    (mixed : AreMixed (announced_in earlier ++ begun) collected notes) (are : AreBeginNotes scans rows listed (first_opened earlier opened) hiddens begun) where
+module _ (scans : List LaterScan) (rows : List Row) (listed : List Listed) (opened : List Opened) (hiddens : List Hidden) (earlier : List Earlier) (forgotten : List Forgotten) (notes begun collected : List Note)
+    (mixed : AreMixed (noted_since earlier forgotten ++ begun) collected notes) (are : AreBeginNotes scans rows listed (first_opened earlier opened) hiddens begun) where
   told_there : (note : Note) → Contains begun note → Contains notes note
-  told_there note there = often_contains same_note tells_notes notes ((announced_in earlier ++ begun) ++ collected) note mixed.often
-      (Contains-append_left (announced_in earlier ++ begun) collected note (Contains-append_right (announced_in earlier) begun note there))
+  told_there note there = often_contains same_note tells_notes notes ((noted_since earlier forgotten ++ begun) ++ collected) note mixed.often
+      (Contains-append_left (noted_since earlier forgotten ++ begun) collected note (Contains-append_right (noted_since earlier forgotten) begun note there))
 
   -- the Begin of each slot was told
   pub slot_begun : (slot : Slot) → Contains (slots_in opened) slot → HasItsBegin notes slot
@@ -215,7 +228,7 @@ module _ (scans : List LaterScan) (rows : List Row) (listed : List Listed) (open
 
 module _ (scans : List LaterScan) (rows : List Row) (listed : List Listed) (opened : List Opened) (hiddens : List Hidden) (earlier : List Earlier) (files : List Turned) (once : AreEachOnce opened files)
     (since : AllByRecursion (IsToldSince opened) files) (before : AllByRecursion (IsToldBefore opened) earlier) (turn : AreInTurn opened earlier)
-    (notes begun collected : List Note) (mixed : AreMixed (announced_in earlier ++ begun) collected notes) (are : AreBeginNotes scans rows listed (first_opened earlier opened) hiddens begun) where
+    (forgotten : List Forgotten) (notes begun collected : List Note) (mixed : AreMixed (noted_since earlier forgotten ++ begun) collected notes) (are : AreBeginNotes scans rows listed (first_opened earlier opened) hiddens begun) where
   in_order : Arranged (IsToldSince opened) files (slots_in opened)
   in_order = arranged (IsToldSince opened) (slots_in opened) files once.are since
 
@@ -236,14 +249,14 @@ module _ (scans : List LaterScan) (rows : List Row) (listed : List Listed) (open
   same_all h = omega (arith, weigh-append h (told_before earlier) files, weigh-append h (told_before earlier) turned, in_order.same h)
 
   begun_last : (t : Turned) → Contains turned t → HasItsBegin notes t.slot
-  begun_last t there = slot_begun scans rows listed opened hiddens earlier notes begun collected mixed are t.slot (subst (λ (l : List Slot). Contains l t.slot) in_order.slots_are (mapped_there (λ (x : Turned). x.slot) turned t there))
+  begun_last t there = slot_begun scans rows listed opened hiddens earlier forgotten notes begun collected mixed are t.slot (subst (λ (l : List Slot). Contains l t.slot) in_order.slots_are (mapped_there (λ (x : Turned). x.slot) turned t there))
 
   begun_before : (t : Turned) → Contains (told_before earlier) t → HasItsBegin notes t.slot
   begun_before t there =
       let of = of_map (λ (e : Earlier). e.left.turned) earlier t there in
       let is = member_is (IsToldBefore opened) earlier of.item before of.among in
       subst (λ (u : Turned). HasItsBegin notes u.slot) of.is
-      (subst (HasItsBegin notes) (sym (is.slot ∙ is.same_slot)) (slot_begun scans rows listed opened hiddens earlier notes begun collected mixed are is.last.begin.slot (mapped_there (λ (one : Opened). one.begin.slot) opened is.last is.among)))
+      (subst (HasItsBegin notes) (sym (is.slot ∙ is.same_slot)) (slot_begun scans rows listed opened hiddens earlier forgotten notes begun collected mixed are is.last.begin.slot (mapped_there (λ (one : Opened). one.begin.slot) opened is.last is.among)))
 
   begun_in : AllByRecursion (λ (t : Turned). HasItsBegin notes t.slot) all_turned
   begun_in = each_member (λ (t : Turned). HasItsBegin notes t.slot) all_turned
@@ -264,7 +277,7 @@ module _ (scans : List LaterScan) (rows : List Row) (listed : List Listed) (open
 
       each_settles : AllByRecursion (HasGround all_turned acknowledged) collected → (note : Note) → Contains notes note → SettlesNothing note ⊎ HasGround all_turned acknowledged note
       each_settles grounded note there =
-          ⊎_elim (λ told. ⊎_elim (λ announced. inl (announced_settles_none earlier note announced)) (λ here. inl (told_settles_none scans rows listed (first_opened earlier opened) hiddens note (member_is (MayBegin scans rows listed (first_opened earlier opened) hiddens) begun note are.each here))) (Contains-append_cases (announced_in earlier) begun note told))
+          ⊎_elim (λ told. ⊎_elim (λ announced. inl (since_settles_none earlier forgotten note announced)) (λ here. inl (told_settles_none scans rows listed (first_opened earlier opened) hiddens note (member_is (MayBegin scans rows listed (first_opened earlier opened) hiddens) begun note are.each here))) (Contains-append_cases (noted_since earlier forgotten) begun note told))
           (λ later. inr (member_is (HasGround all_turned acknowledged) collected note grounded later))
-          (Contains-append_cases (announced_in earlier ++ begun) collected note
-          (often_contains same_note tells_notes ((announced_in earlier ++ begun) ++ collected) notes note (often_back notes ((announced_in earlier ++ begun) ++ collected) mixed.often) there))
+          (Contains-append_cases (noted_since earlier forgotten ++ begun) collected note
+          (often_contains same_note tells_notes ((noted_since earlier forgotten ++ begun) ++ collected) notes note (often_back notes ((noted_since earlier forgotten ++ begun) ++ collected) mixed.often) there))

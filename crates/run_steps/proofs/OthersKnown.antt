@@ -1,5 +1,6 @@
 -- As a file is opened again, what steps suppose of other files stays known: which of them a later scan missed, and that their last tails were closed.
-use Rattle.std.proofs.Common.{◌≡◌, ⊎_elim, List, [], ◌∷◌, ◌++◌, Contains, sym, ap, subst, ◌∙◌}
+use Rattle.std.proofs.Common.{◌≡◌, ◌≢◌, ⊎_elim, List, [], ◌∷◌, ◌++◌, Contains, sym, ap, subst, ◌∙◌}
+use Rattle.std.specs.List.{AllByRecursion}
 use Rattle.accounts.specs.Opened.{Opened}
 use Rattle.wire_base.specs.declared.numbers.Slot.{Slot}
 use Rattle.run_steps.specs.LaterScans.{LaterScan}
@@ -7,7 +8,7 @@ use Rattle.run_steps.specs.OpenedAgain.{IsClosedLast}
 use Rattle.run_steps.specs.Renamed.{IsRemovedSince}
 use Rattle.run_steps.specs.Reopening.{KnownFile}
 use Rattle.run_steps.specs.ReopeningSteps.{IsKnownAs}
-use Rattle.run_steps.specs.SoFar.{Earlier, FilesSoFar, Left, SoFar, files_of, with_opening}
+use Rattle.run_steps.specs.SoFar.{Earlier, FilesSoFar, Forgotten, Left, SoFar, files_of, with_opening}
 use Rattle.run_steps.proofs.WithOpening.{members, others_there}
 
 -- ---- a list without one of its elements
@@ -36,6 +37,7 @@ module _ (next : Opened) (closed : Left) (its : closed.turned.slot ≡ next.begi
     pub left_were : before.left ≡ front ++ closed ∷ behind
     pub left_are : after.left ≡ front ++ behind
     pub opened : after.opened ≡ with_opening next before.opened
+    pub forgotten : after.forgotten ≡ before.forgotten
 
   module _ (before after : SoFar) (only : OpensOnly (files_of before) (files_of after)) where
     pub closed_last_other : (other : Opened) → (other.begin.slot.0 ≡ next.begin.slot.0 → ⊥) → IsClosedLast (files_of before) other → IsClosedLast (files_of after) other
@@ -50,6 +52,7 @@ module _ (next : Opened) (closed : Left) (its : closed.turned.slot ≡ next.begi
           left_are = only.left_are ∙ rest.are;
           slot_is = was.slot_is;
           may = was.may;
+          not_forgotten = subst (AllByRecursion (λ (one : Forgotten). one.opened.begin.slot ≢ other.begin.slot)) (sym only.forgotten) was.not_forgotten;
         }
 
     pub known_other : (known : KnownFile) (other : Opened) (apart : other.begin.slot.0 ≡ next.begin.slot.0 → ⊥) (was : IsClosedLast (files_of before) other) → IsKnownAs known before other was →

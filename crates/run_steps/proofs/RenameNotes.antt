@@ -29,9 +29,9 @@ use Rattle.wire_base.specs.declared.row.Row.{Row}
 use Rattle.run_steps.specs.Begun.{AreBeginNotes, MayBegin, noted_begin}
 use Rattle.run_steps.specs.LaterScans.{LaterScan}
 use Rattle.run_steps.specs.Renamed.{IsNewestName, IsRenameOf}
-use Rattle.run_steps.specs.SoFar.{Earlier, announced_in}
+use Rattle.run_steps.specs.SoFar.{Earlier, Forgotten, noted_since}
 use Rattle.run_steps.proofs.ChangedTurns.{no_later}
-use Rattle.run_steps.proofs.Ordering.{announced_names_none}
+use Rattle.run_steps.proofs.Ordering.{since_names_none}
 
 -- what has its ground in what files told names none
 names_none : (files : List Turned) (acknowledged : List Parcel) (note : Note) → HasGround files acknowledged note → naming_of note ≡ None
@@ -77,7 +77,7 @@ module _ (scans : List LaterScan) (rows : List Row) (listed : List Listed) (open
       sym (ap (λ (n : Naming). n.path) naming_is) ∙ (no_later scans of.file name (newest of.file of.among its_slot) of.name of.named).1 (ap (λ (n : Naming). n.scan) naming_is ∙ same)
 
   -- over these notes, of which some were collected
-  module _ (notes collected : List Note) (earlier : List Earlier) (mixed : AreMixed (announced_in earlier ++ begun) collected notes) (files : List Turned) (acknowledged : List Parcel) (ground : AllByRecursion (HasGround files acknowledged) collected) where
+  module _ (notes collected : List Note) (earlier : List Earlier) (forgotten : List Forgotten) (mixed : AreMixed (noted_since earlier forgotten ++ begun) collected notes) (files : List Turned) (acknowledged : List Parcel) (ground : AllByRecursion (HasGround files acknowledged) collected) where
     abbrev IsSame : Naming → Type 0
     IsSame naming = naming.scan ≡ name.scan → naming.path ≡ name.path
 
@@ -86,13 +86,13 @@ module _ (scans : List LaterScan) (rows : List Row) (listed : List Listed) (open
         let given = there_given naming_of (notes_of slot.0 notes) naming there in
         let passed = there_passed (λ (note : Note). slot_of note == slot.0) notes given.0 given.1 in
         by_where given.0 (eqb-true (slot_of given.0) slot.0 passed.1) given.2
-        (Contains-append_cases (announced_in earlier ++ begun) collected given.0
-        (often_contains same_note tells_notes ((announced_in earlier ++ begun) ++ collected) notes given.0 (often_back notes ((announced_in earlier ++ begun) ++ collected) mixed.often) passed.0))
+        (Contains-append_cases (noted_since earlier forgotten ++ begun) collected given.0
+        (often_contains same_note tells_notes ((noted_since earlier forgotten ++ begun) ++ collected) notes given.0 (often_back notes ((noted_since earlier forgotten ++ begun) ++ collected) mixed.often) passed.0))
       where
-        by_where : (note : Note) → slot_of note ≡ slot.0 → naming_of note ≡ Some naming → Contains (announced_in earlier ++ begun) note ⊎ Contains collected note → IsSame naming
+        by_where : (note : Note) → slot_of note ≡ slot.0 → naming_of note ≡ Some naming → Contains (noted_since earlier forgotten ++ begun) note ⊎ Contains collected note → IsSame naming
         by_where note of_slot names (inl told) =
-            ⊎_elim (λ announced. absurd (let no : None ≡ Some naming = sym (announced_names_none earlier note announced) ∙ names in cc))
-            (λ here. same_name note naming of_slot names (member_is (MayBegin scans rows listed opened hiddens) begun note are.each here)) (Contains-append_cases (announced_in earlier) begun note told)
+            ⊎_elim (λ announced. absurd (let no : None ≡ Some naming = sym (since_names_none earlier forgotten note announced) ∙ names in cc))
+            (λ here. same_name note naming of_slot names (member_is (MayBegin scans rows listed opened hiddens) begun note are.each here)) (Contains-append_cases (noted_since earlier forgotten) begun note told)
         by_where note of_slot names (inr got) =
             absurd (let no : None ≡ Some naming = sym (names_none files acknowledged note (member_is (HasGround files acknowledged) collected note ground got)) ∙ names in cc)
 

@@ -55,11 +55,12 @@ use Rattle.run_steps.specs.Beginning.{AdmitsAt}
 use Rattle.run_steps.specs.Begun.{AreBeginNotes, IsKeyed, IsRuled}
 use Rattle.run_steps.specs.Earlier.{AreEarlier, AreOfOneFile}
 use Rattle.run_steps.specs.ListedSo.{WasListedSo}
+use Rattle.run_steps.specs.Forgotten.{AreForgotten}
 use Rattle.run_steps.specs.OpenedAgain.{IsClosedLast, IsOpenedAgain, goes_on_behind}
 use Rattle.run_steps.specs.RunState.{Finished, Leaving, Reading}
 use Rattle.run_steps.specs.Releasing.{closing_of, with_events}
 use Rattle.run_steps.specs.Shown.{HasShown, IsTurnedIn, WasClosedAs}
-use Rattle.run_steps.specs.SoFar.{Earlier, Left, SoFar, all_told, announced_by, announced_in, files_in, files_of, first_opened, notes_of, told_before, with_opening}
+use Rattle.run_steps.specs.SoFar.{Earlier, Left, SoFar, all_told, announced_by, announced_in, files_in, files_of, first_opened, forgets_in, notes_of, told_before, noted_since, with_opening}
 use Rattle.run_steps.specs.Stands.{AreEachOnce, AreNoted, AreTurnedIn, HaveGiven, IsLeftSo, Notes, Stands, watch_of}
 use Rattle.run_steps.specs.Telling.{TellsNotes}
 use Rattle.run_steps.proofs.Admitting.{TurnedWith, all_of, booked_by, each_still, notes_same, often_mapped, parcels_same, passes_same, placed_by, spans_often, spans_same, turned_at}
@@ -68,6 +69,8 @@ use Rattle.run_steps.proofs.BeginningSteps.{shown_tells}
 use Rattle.run_steps.proofs.BegunFolder.{both_are}
 use Rattle.run_steps.proofs.BegunNotes.{areas_more, counted_more, got_same, noted_more, stores_more}
 use Rattle.run_steps.proofs.EarlierMore.{one_more_earlier, slot_numbers, the_last}
+use Rattle.run_steps.proofs.ForgottenOn.{forgotten_left}
+use Rattle.run_steps.proofs.ForgottenApart.{forgotten_again}
 use Rattle.run_steps.proofs.Grounds.{all_backed}
 use Rattle.run_steps.proofs.ListedSo.{listed_again}
 use Rattle.run_steps.proofs.Openings.{adds_left, adds_opening, closed_at_once, still_open_now, with_more}
@@ -193,6 +196,9 @@ module _ {T W L D : Type 0} (words : Words T W L D) (reads : (disk : D) → IfSo
   of_left : (l : Left) → Contains others l → Contains so_far.left l
   of_left l there = subst (λ (ls : List Left). Contains ls l) (sym closed.left_are) (with_it_there closed.before closed.behind closed.left l there)
 
+  forgotten_others : AreForgotten so_far.scans now_opened others so_far.forgotten
+  forgotten_others = forgotten_again so_far.scans so_far.opened so_far.left last next slot_same closed.before closed.left closed.behind closed.left_are closed.slot_is so_far.forgotten closed.not_forgotten stands.files.forgotten
+
   still_left : AllByRecursion (IsLeftSo watch now_opened so_far.moments) others
   still_left = each_member (IsLeftSo watch now_opened so_far.moments) others (λ l there.
       let so = member_is (IsLeftSo watch so_far.opened so_far.moments) so_far.left l stands.files.left (of_left l there) in
@@ -257,21 +263,23 @@ module _ {T W L D : Type 0} (words : Words T W L D) (reads : (disk : D) → IfSo
         by_epoch true = subst AreOrderly (sym (append-nil keeper.tracked.notes)) stands.notes.noted.mixed.orderly
         by_epoch false = one_more_orderly keeper.tracked.notes (Announce last.begin.slot next.begin.epoch) stands.notes.noted.mixed.orderly
             (begin_begins keeper.tracked.notes last.begin.slot
-            (slot_begun so_far.scans start.opening start.listed so_far.opened so_far.hidden so_far.earlier keeper.tracked.notes so_far.begun so_far.collected stands.notes.noted.mixed stands.notes.begun last.begin.slot
+            (slot_begun so_far.scans start.opening start.listed so_far.opened so_far.hidden so_far.earlier so_far.forgotten keeper.tracked.notes so_far.begun so_far.collected stands.notes.noted.mixed stands.notes.begun last.begin.slot
             (mapped_there (λ (o : Opened). o.begin.slot) so_far.opened last closed.among)))
 
-    noted : AreNoted start.opening new_keeper (announced_in (so_far.earlier ++ one ∷ []) ++ so_far.begun) so_far.collected
+    noted : AreNoted start.opening new_keeper (noted_since (so_far.earlier ++ one ∷ []) so_far.forgotten ++ so_far.begun) so_far.collected
     noted = record {
       opening_is = more.opening_is;
       mixed = record {
         often = λ h. omega (
           arith,
           more.mixed.often h,
-          weigh-append h ((announced_in so_far.earlier ++ so_far.begun) ++ announced_by one) so_far.collected,
-          weigh-append h (announced_in so_far.earlier ++ so_far.begun) (announced_by one),
-          weigh-append h (announced_in so_far.earlier) so_far.begun,
-          weigh-append h (announced_in (so_far.earlier ++ one ∷ []) ++ so_far.begun) so_far.collected,
-          weigh-append h (announced_in (so_far.earlier ++ one ∷ [])) so_far.begun,
+          weigh-append h ((noted_since so_far.earlier so_far.forgotten ++ so_far.begun) ++ announced_by one) so_far.collected,
+          weigh-append h (noted_since so_far.earlier so_far.forgotten ++ so_far.begun) (announced_by one),
+          weigh-append h (noted_since so_far.earlier so_far.forgotten) so_far.begun,
+          weigh-append h (announced_in so_far.earlier) (forgets_in so_far.forgotten),
+          weigh-append h (noted_since (so_far.earlier ++ one ∷ []) so_far.forgotten ++ so_far.begun) so_far.collected,
+          weigh-append h (noted_since (so_far.earlier ++ one ∷ []) so_far.forgotten) so_far.begun,
+          weigh-append h (announced_in (so_far.earlier ++ one ∷ [])) (forgets_in so_far.forgotten),
           ap (weigh h) (flat_map_both announced_by so_far.earlier (one ∷ [])),
           weigh-append h (announced_in so_far.earlier) (announced_in (one ∷ [])),
           weigh-append h (announced_by one) [],
@@ -281,10 +289,10 @@ module _ {T W L D : Type 0} (words : Words T W L D) (reads : (disk : D) → IfSo
       got = more.got;
     }
       where
-        more : AreNoted start.opening new_keeper ((announced_in so_far.earlier ++ so_far.begun) ++ announced_by one) so_far.collected
-        more = noted_more (announced_by one) keeper new_keeper tells start.opening (announced_in so_far.earlier ++ so_far.begun) so_far.collected orderly stands.notes.noted
+        more : AreNoted start.opening new_keeper ((noted_since so_far.earlier so_far.forgotten ++ so_far.begun) ++ announced_by one) so_far.collected
+        more = noted_more (announced_by one) keeper new_keeper tells start.opening (noted_since so_far.earlier so_far.forgotten ++ so_far.begun) so_far.collected orderly stands.notes.noted
 
-    notes_now : Notes start new_keeper (record { scans = so_far.scans; opened = first_opened (so_far.earlier ++ one ∷ []) now_opened; hidden = so_far.hidden; announced = announced_in (so_far.earlier ++ one ∷ []); begun = so_far.begun; collected = so_far.collected })
+    notes_now : Notes start new_keeper (record { scans = so_far.scans; opened = first_opened (so_far.earlier ++ one ∷ []) now_opened; hidden = so_far.hidden; since = noted_since (so_far.earlier ++ one ∷ []) so_far.forgotten; begun = so_far.begun; collected = so_far.collected })
     notes_now = record {
       counted = counted_more (announced_by one) keeper new_keeper tells stands.notes.counted;
       begun = subst (λ (l : List Opened). AreBeginNotes so_far.scans start.opening start.listed l so_far.hidden so_far.begun) (sym firsts) stands.notes.begun;
@@ -370,6 +378,7 @@ module _ {T W L D : Type 0} (words : Words T W L D) (reads : (disk : D) → IfSo
           turned = with_it.stand;
           left = still_left;
           earlier = earlier;
+          forgotten = forgotten_others;
           reading = λ is. absurd (let no : Leaving ≡ Reading = is in cc);
           finished = λ is some. absurd (let no : Leaving ≡ Finished = is in cc);
           over = tt;
@@ -471,6 +480,7 @@ module _ {T W L D : Type 0} (words : Words T W L D) (reads : (disk : D) → IfSo
             in_epochs = (inl refl, tt);
           });
           earlier = earlier;
+          forgotten = forgotten_left so_far.scans now_opened others (left_one ∷ []) so_far.forgotten forgotten_others;
           reading = λ is. absurd (let no : Leaving ≡ Reading = is in cc);
           finished = λ is some. absurd (let no : Leaving ≡ Finished = is in cc);
           over = tt;
@@ -490,11 +500,8 @@ module _ {T W L D : Type 0} (words : Words T W L D) (reads : (disk : D) → IfSo
           heard = stands.books.heard;
           placed = left_placed;
           backed = all_backed (lanings crew.lanes.items) crew.carriers.items so_far.queued (notes new_keeper.pass.got) so_far.boxed so_far.told (all_told left_after) (gave (files_in left_after) left_often) left_placed;
-          spans = λ few. stands_spans (spans (files_in left_after) left_often) (stands.books.spans few);
+          spans = λ few. spans (files_in left_after) left_often ∙ stands.books.spans few;
         };
         notes = notes_now;
         areas = areas_now;
       }
-        where
-          stands_spans : {x y z : ℕ} → x ≡ y → y ≡ z → x ≡ z
-          stands_spans one_is other_is = one_is ∙ other_is

@@ -102,6 +102,7 @@ module _ {T W L D : Type 0} (words : Words T W L D) (reads : (disk : D) → IfSo
           turned = stands.files.turned;
           left = stands.files.left;
           earlier = stands.files.earlier;
+          forgotten = stands.files.forgotten;
           reading = λ is. absurd (let no : Leaving ≡ Reading = is in cc);
           finished = λ is some. absurd (let no : Leaving ≡ Finished = is in cc);
           over = tt;
@@ -370,6 +371,7 @@ module _ {T W L D F K B : Type 0} (words : StepWords T W L D F K B) (reads : (di
         left_are = closed.left_are;
         slot_is = closed.slot_is;
         may = closed.may;
+        not_forgotten = closed.not_forgotten;
       }
 
       known_so : IsKnownAs known (record so_far { moments = so_far.moments ++ at.more }) last closed_so

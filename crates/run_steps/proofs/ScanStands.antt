@@ -54,6 +54,7 @@ use Rattle.run_steps.proofs.EarlierOn.{earlier_watched}
 use Rattle.run_steps.proofs.LeftStill.{left_still}
 use Rattle.run_steps.proofs.ListedSo.{listed_on}
 use Rattle.run_steps.proofs.ListedLater.{all_listed_on, entry_on}
+use Rattle.run_steps.proofs.ForgottenOn.{forgotten_scanned}
 use Rattle.run_steps.proofs.Openings.{below_all, earlier_stays, left_stays, still_stays, with_more}
 
 -- ---- what it says of files is said still
@@ -283,6 +284,7 @@ module _ {T W L D : Type 0} (words : Words T W L D) (start : Began D) (moments :
         left = left;
         earlier = earlier_watched (watch_of start so_far.scans) (watch_of start scanned_too.scans) start.shown so_far.opened so_far.moments so_far.earlier refl refl (named_on so_far.scans scan) may
             stands.files.earlier;
+        forgotten = forgotten_scanned so_far.scans scan so_far.opened so_far.left so_far.forgotten stands.files.forgotten;
         reading = λ is. let was = stands.files.reading is in record { none_left = was.none_left; none_over = was.none_over };
         finished = stands.files.finished;
         over = stands.files.over;

@@ -83,6 +83,7 @@ module _ {T W L D : Type 0} (words : Words T W L D) (start : Began D) (moments :
               in_epochs = so.in_epochs;
             }) stands.files.left;
         earlier = earlier_later (watch_of start so_far.scans) start.shown so_far.opened so_far.moments given.more so_far.earlier stands.files.earlier;
+        forgotten = stands.files.forgotten;
         reading = λ is. let was = stands.files.reading is in record { none_left = was.none_left; none_over = was.none_over };
         finished = stands.files.finished;
         over = stands.files.over;

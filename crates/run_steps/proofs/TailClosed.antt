@@ -12,7 +12,7 @@ use Rattle.accounts.specs.Turning.{IsTurnedSo}
 use Rattle.accounts.specs.Watch.{Watch}
 use Rattle.accounts.proofs.Backing.{mapped_there}
 use Rattle.accounts.proofs.Grounded.{each_member}
-use Rattle.accounts.proofs.Joining.{same_slot, told_as_often, tells_slots}
+use Rattle.accounts.proofs.Joining.{same_slot, tells_slots, told_as_often}
 use Rattle.accounts.proofs.Lists.{each_last}
 use Rattle.accounts.proofs.Often.{often_back, often_contains, often_then, once_apart, once_more, once_none, once_often}
 use Rattle.accounts.proofs.Orderly.{member_is}
@@ -51,9 +51,9 @@ use Rattle.run_steps.specs.ReadBehind.{ReadsBehind, ReadsWhereNoFault}
 use Rattle.run_steps.specs.RunState.{Finished, Following, Halted, HaltedFollowing, Leaving, OutOfEpochs, Phase, Reading}
 use Rattle.told_scans.specs.OnlyAsked.{IsNoListing, WasClosedWith, WasOnlyAsked}
 use Rattle.told_scans.proofs.ToldScans.{nothing_appended}
-use Rattle.run_steps.specs.LaterScans.{told_in}
 use Rattle.told_scans.proofs.ScansPlaced.{between_on}
-use Rattle.run_steps.specs.Shown.{HasDone, HasShown, IsStillOpen, WasClosedAs, WasClosedInTurn, WasOpenedSince, openings_of}
+use Rattle.run_steps.specs.Shown.{HasDone, HasShown, IsStillOpen, openings_of, WasClosedAs, WasClosedInTurn, WasOpenedSince}
+use Rattle.run_steps.specs.LaterScans.{told_in}
 use Rattle.run_steps.specs.SoFar.{Earlier, Left, SoFar, all_told, books_of, files_in, files_of, notes_of, opened_before, openings_within, told_before}
 use Rattle.run_steps.specs.Stands.{AreAnswered, AreEachOnce, Books, BooksNow, Files, FilesNow, HaveGiven, HoldsWhereNoFault, IsFollowing, IsLeftRead, IsLeftSo, MayTell, ReadsYet, watch_of}
 use Rattle.run_steps.proofs.AreRead.{read_now}
@@ -63,6 +63,7 @@ use Rattle.run_steps.proofs.Closing.{closed_as_it_was, closed_now, closed_still,
 use Rattle.run_steps.proofs.First.{got_within}
 use Rattle.run_steps.proofs.Growing.{grown_by_nothing, grown_by_two, grown_closing}
 use Rattle.run_steps.proofs.FollowedFiles.{answered_resting}
+use Rattle.run_steps.proofs.ForgottenOn.{forgotten_left}
 use Rattle.run_steps.proofs.Grounds.{all_backed}
 use Rattle.run_steps.proofs.InEpochs.{told_in_epochs}
 use Rattle.run_steps.proofs.LastOver.{some_behind, some_first}
@@ -459,6 +460,7 @@ module _ {T W L D : Type 0} (words : Words T W L D) (start : Began D) (moments :
           turned = its.others;
           left = left;
           earlier = reads.files.earlier;
+          forgotten = forgotten_left so_far.scans so_far.opened so_far.left (left_one ∷ []) so_far.forgotten reads.files.forgotten;
           reading = λ is. absurd (not_reading is);
           finished = finished;
           over = over phase reads.files.over;

@@ -60,6 +60,7 @@ module _ {T W L D : Type 0} (words : Words T W L D) where
     turned = files.turned;
     left = files.left;
     earlier = files.earlier;
+    forgotten = files.forgotten;
     reading = λ is. absurd (left_not_reading now.phase is);
     finished = λ is some. finished now.phase refl is some;
     over = over now.phase files.over;
@@ -153,6 +154,7 @@ module _ {T W L D : Type 0} (words : Words T W L D) where
         turned = stands.files.turned;
         left = stands.files.left;
         earlier = stands.files.earlier;
+        forgotten = stands.files.forgotten;
         reading = λ is. absurd (let no : Leaving ≡ Reading = is in cc);
         finished = λ is some. absurd (let no : Leaving ≡ Finished = is in cc);
         over = tt;

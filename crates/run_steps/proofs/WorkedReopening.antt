@@ -57,6 +57,7 @@ module _ (rule : InputRule) (file : File) (processors : List ProcessorRule) (his
     lanes = [] ∷ [];
     left = closed ∷ [];
     earlier = [];
+    forgotten = [];
     told = told;
     begun = [];
     collected = [];
@@ -73,6 +74,7 @@ module _ (rule : InputRule) (file : File) (processors : List ProcessorRule) (his
     left_are = refl;
     slot_is = refl;
     may = subst MayReopenAt (sym at_end) tt;
+    not_forgotten = tt;
   }
 
   goes_on_where : (size : ℕ) → goes_on_behind closed size ≡ goes_on 2 7 size

@@ -19,6 +19,8 @@ pub record IsGrownFrom (before after : SoFar) : Type 0 where
   -- the same files, each as it was opened last, and the same hidden rows
   pub opened : after.opened ≡ before.opened
   pub hidden : after.hidden ≡ before.hidden
+  -- no file was forgotten
+  pub forgotten : after.forgotten ≡ before.forgotten
   -- none was opened again
   pub earlier : after.earlier ≡ before.earlier
   -- each tail that was closed is closed still, with what it told then

@@ -22,6 +22,9 @@ pub mod FirstLook
 pub mod FolderSeen
 pub mod FollowedOrSkipped
 pub mod FollowingSteps
+pub mod ForgetSteps
+pub mod Forgetting
+pub mod Forgotten
 pub mod Goes
 pub mod Growing
 pub mod HiddenRows

@@ -2,8 +2,8 @@
 -- or where the file had another key. What that told moves to the openings before, and an opening of the same file takes its place, of which nothing
 -- was told yet: from the end of the last event that was told, in the same epoch, where the file was listed with at least that size, else
 -- from its first byte in the next epoch, which the keeper is told.
-use Rattle.std.specs.Prelude.{◌≡◌, ℕ, List, [], ◌∷◌, ◌++◌, Contains}
-use Rattle.std.specs.List.{flat_map}
+use Rattle.std.specs.Prelude.{◌≡◌, ◌≢◌, ℕ, List, [], ◌∷◌, ◌++◌, Contains}
+use Rattle.std.specs.List.{AllByRecursion, flat_map}
 use Rattle.accounts.specs.FollowedFile.{MayReopenAt, start_in}
 use Rattle.accounts.specs.Opened.{Opened}
 use Rattle.accounts.specs.Turned.{Turned}
@@ -15,7 +15,7 @@ use Rattle.slot_parts.specs.Account.{goes_on}
 use Rattle.run_steps.specs.Earlier.{AreOfOneFile}
 use Rattle.run_steps.specs.SoFar.{Earlier, FilesSoFar, Left, SoFar, with_opening}
 
--- the last opening of its slot, whose tail was closed with what it told
+-- the last opening of its slot, whose tail was closed with what it told; the file is not forgotten
 pub record IsClosedLast (so_far : FilesSoFar) (last : Opened) : Type 0 where
   pub among : Contains so_far.opened last
   pub before : List Left
@@ -24,6 +24,7 @@ pub record IsClosedLast (so_far : FilesSoFar) (last : Opened) : Type 0 where
   pub left_are : so_far.left ≡ before ++ left ∷ behind
   pub slot_is : left.turned.slot ≡ last.begin.slot
   pub may : MayReopenAt left.turned.history.stage
+  pub not_forgotten : AllByRecursion (λ one. one.opened.begin.slot ≢ last.begin.slot) so_far.forgotten
 
 -- where a file goes on of which so much was told, by the size with which it is listed
 abbrev pub goes_on_behind : Left → ℕ → Start

@@ -5,10 +5,11 @@ use Rattle.std.specs.List.{flat_map}
 use Rattle.accounts.specs.Hidden.{Hidden}
 use Rattle.accounts.specs.Opened.{Opened}
 use Rattle.accounts.specs.Turned.{Turned}
+use Rattle.harvester.specs.History.{told_to}
 use Rattle.outside.specs.Tails.{TailHistory}
 use Rattle.rounds.specs.Books.{Told}
 use Rattle.wire_base.specs.declared.note.Note.{Note}
-use Rattle.wire_base.specs.declared.note.Note.TheVariants.{Announce}
+use Rattle.wire_base.specs.declared.note.Note.TheVariants.{Announce, Forget}
 use Rattle.wire_base.specs.declared.parcel.Parcel.{Parcel}
 use Rattle.run_steps.specs.LaterScans.{LaterScan}
 
@@ -22,6 +23,11 @@ pub record Earlier : Type 0 where
   pub opened : Opened
   pub left : Left
   pub next : Opened
+
+-- a removed file whose Forget the keeper was told, as it was opened last, with what its tail told till it was closed
+pub record Forgotten : Type 0 where
+  pub opened : Opened
+  pub left : Left
 
 pub record SoFar : Type 0 where
   -- the moments that the clock gave since the run began, the last one before it with them
@@ -37,9 +43,11 @@ pub record SoFar : Type 0 where
   pub left : List Left
   -- the openings that came before those, in order
   pub earlier : List Earlier
+  -- those that are forgotten, since they were removed
+  pub forgotten : List Forgotten
   -- what was reported of them, and what a peer acknowledged of it
   pub told : Told
-  -- the notes that the run told the keeper itself, but for epochs of files that were opened again, and those that the keeper collected
+  -- the notes that the run told the keeper itself, but for epochs of files that were opened again and for Forgets, and those that the keeper collected
   pub begun : List Note
   pub collected : List Note
   -- what the queue and the box held as all passes met last
@@ -69,6 +77,19 @@ announced_by one =
 abbrev pub announced_in : List Earlier → List Note
 announced_in earlier = flat_map announced_by earlier
 
+-- ---- as files were forgotten
+
+-- the last epoch of the file, and the end of the last event that was told in it
+abbrev pub forget_of : Forgotten → Note
+forget_of one = Forget one.opened.begin.slot (record { 0 = one.left.turned.history.present.epoch }) (told_to one.left.turned.history.present)
+
+abbrev pub forgets_in : List Forgotten → List Note
+forgets_in forgotten = map forget_of forgotten
+
+-- what the keeper was told as files were opened again, and as they were forgotten
+abbrev pub noted_since : List Earlier → List Forgotten → List Note
+noted_since earlier forgotten = announced_in earlier ++ forgets_in forgotten
+
 -- ---- its parts: a step that leaves one as it is keeps all that is said of it
 
 -- the files
@@ -79,6 +100,7 @@ pub record FilesSoFar : Type 0 where
   pub lanes : List (List Turned)
   pub left : List Left
   pub earlier : List Earlier
+  pub forgotten : List Forgotten
 
 abbrev pub files_of : SoFar → FilesSoFar
 files_of so_far = record {
@@ -88,6 +110,7 @@ files_of so_far = record {
   lanes = so_far.lanes;
   left = so_far.left;
   earlier = so_far.earlier;
+  forgotten = so_far.forgotten;
 }
 
 -- all openings
@@ -126,7 +149,7 @@ pub record NotesSoFar : Type 0 where
   pub scans : List LaterScan
   pub opened : List Opened
   pub hidden : List Hidden
-  pub announced : List Note
+  pub since : List Note
   pub begun : List Note
   pub collected : List Note
 
@@ -135,7 +158,7 @@ notes_of so_far = record {
   scans = so_far.scans;
   opened = first_opened so_far.earlier so_far.opened;
   hidden = so_far.hidden;
-  announced = announced_in so_far.earlier;
+  since = noted_since so_far.earlier so_far.forgotten;
   begun = so_far.begun;
   collected = so_far.collected;
 }

@@ -31,6 +31,7 @@ use Rattle.run_steps.specs.Areas.{BeganAtRest, HaveHeldFronts}
 use Rattle.run_steps.specs.Began.{Began}
 use Rattle.run_steps.specs.Begun.{AreBeginNotes, AreSlotsFrom, IsKeyed, IsOpenedAsListed, IsRuled}
 use Rattle.run_steps.specs.Earlier.{AreEarlier}
+use Rattle.run_steps.specs.Forgotten.{AreForgotten}
 use Rattle.run_steps.specs.HiddenRows.{AreHiddenSoFar}
 use Rattle.run_steps.specs.LastEpoch.{AreToldInEpochs, HasAnswered, HasAnsweredWhereNoFault, HaveOneOver, IsAnswered}
 use Rattle.run_steps.specs.LaterScans.{AreLaterScans, LaterScan, WasMissed, WasNamed}
@@ -174,6 +175,7 @@ pub record Files {T D : Type 0} (tails : TailWords T) (start : Began D) (now : F
   pub turned : Pairs (AreTurnedIn tails (watch_of start so_far.scans) so_far.opened so_far.moments) so_far.lanes now.lanes
   pub left : AllByRecursion (IsLeftSo (watch_of start so_far.scans) so_far.opened so_far.moments) so_far.left
   pub earlier : AreEarlier (watch_of start so_far.scans) start.shown so_far.opened so_far.moments so_far.earlier
+  pub forgotten : AreForgotten so_far.scans so_far.opened so_far.left so_far.forgotten
   pub reading : now.phase ≡ Reading → IsReading now.lanes so_far
   pub finished : now.phase ≡ Finished → IsSome start.shown → AllByRecursion (λ turned. IsReadThrough turned.history) (files_within so_far)
   pub over : HaveOneOver now.phase (files_within so_far)
@@ -216,7 +218,7 @@ pub record Notes {D : Type 0} (start : Began D) (keeper : Keeping) (so_far : Not
   pub counted : AreCounted keeper
   pub begun : AreBeginNotes so_far.scans start.opening start.listed so_far.opened so_far.hidden so_far.begun
   pub hidden : AreHiddenSoFar start.settings.inputs start.listed start.opening so_far.hidden
-  pub noted : AreNoted start.opening keeper (so_far.announced ++ so_far.begun) so_far.collected
+  pub noted : AreNoted start.opening keeper (so_far.since ++ so_far.begun) so_far.collected
   pub stores : Stores keeper.tracked keeper.store
 
 module _ {T W L D : Type 0} where

@@ -1,6 +1,7 @@
 ghost use Rattle.std.specs.Prelude.{◌≤◌, ℕ, IfSome, List};
 ghost use Rattle.run_steps.specs.ChangeSteps.{EndsAreChanges, MomentsAreChanges, RenamesAreChanges, StirsAreChanges, StirsAreSteps};
 ghost use Rattle.run_steps.specs.FollowingSteps.{BeginsToFollow, ClosingsAreSteps};
+ghost use Rattle.run_steps.specs.ForgetSteps.{ForgetsAreSteps};
 ghost use Rattle.run_steps.specs.Goes.{step_words};
 ghost use Rattle.run_steps.specs.OpeningKeeps.{OpeningsAgainKeep};
 ghost use Rattle.run_steps.specs.OpeningSteps.{OpeningsAreSteps, OpeningsKeepReady};
@@ -38,6 +39,16 @@ pub fn changes_are_steps<F: Folder, L: Link, W: Wire<Link = L>, D: Disk, K: Cloc
     ensures renames { RenamesAreChanges
         (step_words F.Folder F.Tail.Tail L.Link W.Wire D.Disk K.Clock B.Bell) }
     ensures moments { MomentsAreChanges
+        (step_words F.Folder F.Tail.Tail L.Link W.Wire D.Disk K.Clock B.Bell) }
+{
+    disk_images_are_counted::<D>();
+}
+
+/// Telling the keeper that a removed file is forgotten is a step of a run: what was known before it is known after it, with one more
+/// file that is forgotten. It supposes that a whole scan after the file's last opening missed it, and that its last tail is closed:
+/// its end was found, or the tail was closed before that scan. A law; it computes nothing.
+pub fn forgets_are_steps<F: Folder, L: Link, W: Wire<Link = L>, D: Disk, K: Clock, B: Bell>()
+    ensures { ForgetsAreSteps
         (step_words F.Folder F.Tail.Tail L.Link W.Wire D.Disk K.Clock B.Bell) }
 {
     disk_images_are_counted::<D>();

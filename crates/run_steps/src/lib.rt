@@ -13,6 +13,7 @@ mod changing;
 mod context;
 mod crew;
 mod follow;
+mod forgetting;
 mod hidden;
 mod laws;
 mod leave;
@@ -37,10 +38,11 @@ pub use changing::{NewName, end_file, rename_file, stir_file};
 pub use context::{Context, Surroundings, System};
 pub use crew::{BOX_NOTES, Passes, crew_of};
 pub use follow::{PAUSE_MS, met_behind, met_in, pause_where_still};
+pub use forgetting::{RemovedFile, forget_closed};
 pub use hidden::{hide_begun, tell_hidden};
 pub use laws::{
-    changes_are_steps, disk_images_are_counted, following_goes_on, openings_again_are_steps,
-    openings_are_steps, scans_again_are_steps,
+    changes_are_steps, disk_images_are_counted, following_goes_on, forgets_are_steps,
+    openings_again_are_steps, openings_are_steps, scans_again_are_steps,
 };
 pub use leave::{
     close_all, close_failed, close_resting, close_slot, close_tail, end_crew, end_lanes,

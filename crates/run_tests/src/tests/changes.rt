@@ -9,12 +9,14 @@ use harvester::{Harvester, Turn};
 use keeper::{Keeper, KeeperTurn, few_keys_by_length};
 use lanes::Lane;
 use outside_mem::MemDisk;
-use run_steps::{NewName, end_file, open_registry, rename_file, stir_file};
+use run_steps::{
+    NewName, RemovedFile, end_file, forget_closed, open_registry, rename_file, stir_file,
+};
 use settle_box::SettleBox;
 use std::alloc::Global;
 use std::sync::Wait;
 use std::test::Fail;
-use wire_base::{Epoch, Moment, Note, Slot};
+use wire_base::{Epoch, MAX_PLACE, Moment, Note, Slot};
 
 type StillLane = Lane<ScriptTail<'static>>;
 
@@ -100,8 +102,8 @@ fn noting_of(alloc: Global, slot: u32) -> Result<Noting, Fail> {
     Ok(Noting { keeper, desk, a, b })
 }
 
-/// The path of the row that it stores.
-fn is_stored_as<R: Wait>(rt: &R, alloc: Global, noting: Noting, path: &str) -> bool {
+/// The path of the row that it stores, if it stores one.
+fn is_stored_as<R: Wait>(rt: &R, alloc: Global, noting: Noting, path: Option<&str>) -> bool {
     let Noting {
         mut keeper,
         desk,
@@ -111,7 +113,10 @@ fn is_stored_as<R: Wait>(rt: &R, alloc: Global, noting: Noting, path: &str) -> b
     match keeper.turn(rt, alloc, &desk, &mut a, &mut b) {
         KeeperTurn::Kept(_) => {
             let rows = keeper.rows();
-            rows.len() == 1 && rows.at(0).path.as_str() == path
+            match path {
+                Some(path) => rows.len() == 1 && rows.at(0).path.as_str() == path,
+                None => rows.len() == 0,
+            }
         }
         _ => false,
     }
@@ -152,6 +157,8 @@ enum Step {
     End(u32, bool),
     /// Its path is `/b`, by the scan of this number.
     Rename(u32, u64, bool),
+    /// It is forgotten with this place of epoch 0.
+    Forget(u32, u64, bool),
     Turn(u32, Option<&'static [u8]>),
     Rests(u32, bool),
 }
@@ -177,6 +184,15 @@ fn is_answered(
             };
             rename_file(alloc, name, lanes, &mut noting.keeper)? == told
         }
+        Step::Forget(slot, end, told) if end <= MAX_PLACE => {
+            let file = RemovedFile {
+                slot: Slot(slot),
+                epoch: Epoch(0),
+                end,
+            };
+            forget_closed(alloc, file, &mut noting.keeper)? == told
+        }
+        Step::Forget(..) => false,
         Step::Turn(slot, end) => {
             let lane = slot as usize % lanes.len();
             is_turned(alloc, &mut lanes[lane], slot, end)
@@ -224,12 +240,20 @@ const RENAMED: &[Step] = &[
 /// No lane has a harvester of the begun slot.
 const CLOSED: &[Step] = &[Step::Rename(2, 1, true), Step::Rename(0, 1, false)];
 
-/// The slot of which the keeper was told, what is done, and the path of its row then.
-const CASES: &[(u32, &[Step], &str)] = &[
-    (0, STIRRED, "/a"),
-    (0, ENDED, "/a"),
-    (0, RENAMED, "/b"),
-    (2, CLOSED, "/b"),
+/// All that was told of the begun slot is settled, so its row goes; a slot that was not begun is not forgotten.
+const FORGOTTEN: &[Step] = &[Step::Forget(0, 0, false), Step::Forget(2, 0, true)];
+
+/// What was told of the begun slot is not settled yet, so its row stays.
+const UNSETTLED: &[Step] = &[Step::Forget(2, 4, true)];
+
+/// The slot of which the keeper was told, what is done, and the path of its row then, if it has one.
+const CASES: &[(u32, &[Step], Option<&str>)] = &[
+    (0, STIRRED, Some("/a")),
+    (0, ENDED, Some("/a")),
+    (0, RENAMED, Some("/b")),
+    (2, CLOSED, Some("/b")),
+    (2, FORGOTTEN, None),
+    (2, UNSETTLED, Some("/a")),
 ];
 
 #[test]
@@ -241,7 +265,7 @@ fn files_change_between_rounds(rt: HostRuntime) -> Result<(), Fail> {
             let answered = is_answered(rt.alloc(), lanes.as_mut_slice(), &mut noting, *step)?;
             assert!(rt; answered, "step {place}");
         }
-        assert!(rt; is_stored_as(&rt, rt.alloc(), noting, path));
+        assert!(rt; is_stored_as(&rt, rt.alloc(), noting, *path));
     }
     Ok(())
 }
