@@ -52,12 +52,11 @@ module _ (run : Run) where
     reopened_for last so_far longer ends (next ∷ later) are =
         let is = are.0 in
         let starts : start_in next.opened ≡ goes_on longer.present.epoch (told_to longer.present) is.shown.shown.entry.size =
-        is.starts ∙ (λ k. goes_on (sym ends.epoch_is k) (sym ends.place_is k) is.shown.shown.entry.size) in
-        (
+        is.starts ∙ (λ k. goes_on (sym ends.epoch_is k) (sym ends.place_is k) is.shown.shown.entry.size) in (
           record { is = opening_of_other first other same next is.is; shown = is.shown; starts = starts; may = is.may; closed = is.closed },
           reopened_for next (told_both so_far next.history) (told_both longer next.history)
-          (same_ends (told_both longer next.history) (told_both so_far next.history) next.history (goes_as first next longer is.shown.shown.entry.size is.is starts)
-          (goes_as first next so_far is.shown.shown.entry.size is.is is.starts)) later are.1,
+              (same_ends (told_both longer next.history) (told_both so_far next.history) next.history (goes_as first next longer is.shown.shown.entry.size is.is starts)
+              (goes_as first next so_far is.shown.shown.entry.size is.is is.starts)) later are.1,
         )
 
   -- ---- put before the others
@@ -74,9 +73,8 @@ module _ (run : Run) where
   pub reopened_behind : (one : Opening) (file : Filed) → ComesBefore one file → AreReopened run file.opened (first_opening file) file.turned.history file.later →
       AreReopened run one.opened one one.history (first_opening file ∷ file.later)
   reopened_behind one file comes are =
-      let is : IsOpeningOf run one.opened (first_opening file) = opening_of_other file.opened one.opened comes.same (first_opening file) comes.is in
-      (
+      let is : IsOpeningOf run one.opened (first_opening file) = opening_of_other file.opened one.opened comes.same (first_opening file) comes.is in (
         record { is = is; shown = comes.shown; starts = comes.starts; may = comes.may; closed = comes.closed },
         reopened_for file.opened one.opened comes.same (first_opening file) file.turned.history (told_both one.history file.turned.history)
-        (goes_as one.opened (first_opening file) one.history comes.shown.shown.entry.size is comes.starts) file.later are,
+            (goes_as one.opened (first_opening file) one.history comes.shown.shown.entry.size is comes.starts) file.later are,
       )

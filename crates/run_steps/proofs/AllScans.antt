@@ -1,6 +1,6 @@
 -- The scans of a run, the first one and those after it, in the terms of its account: the run is one by these scans, and what later scans say of a file that
 -- was opened is what the account of it asks for.
-use Rattle.std.proofs.Common.{◌≡◌, ⊎_elim, ℕ, zero, suc, ◌≤◌, ◌<◌, List, [], ◌∷◌, ◌++◌, Contains, length, map, IfSome, IsSome, inl, inr, ◌⊎◌, None, Option, Some, refl, sym, ap, subst, ◌∙◌, arith}
+use Rattle.std.proofs.Common.{◌≡◌, ⊎_elim, ℕ, zero, suc, ◌≤◌, ◌<◌, List, [], ◌∷◌, ◌++◌, Contains, length, map, IfSome, IsSome, inl, inr, None, Option, Some, refl, sym, ap, subst, ◌∙◌, arith}
 use Rattle.std.proofs.lemmas.Bool.{cases_lt}
 use Rattle.std.specs.Prelude.{slice_get}
 use Rattle.std.specs.List.{AllByRecursion, cons_option}
@@ -11,10 +11,9 @@ use Rattle.accounts.specs.Opened.{Opened}
 use Rattle.accounts.specs.RunsInARow.{HaveOwnIds}
 use Rattle.accounts.specs.ToldFile.{IsToldFile}
 use Rattle.accounts.specs.Turned.{Turned}
-use Rattle.accounts.specs.Watch.{MayFindEnd, Name}
+use Rattle.accounts.specs.Watch.{Name}
 use Rattle.accounts.specs.Watched.{WasRemovedSince, WasRenamedSince, watch_in}
 use Rattle.event_tree.specs.declared.settings.Settings.{Settings}
-use Rattle.kept_rows.specs.Run.{Run}
 use Rattle.kept_rows.specs.Scans.{StandInOrder}
 use Rattle.kept_rows.specs.Trace.{WireTold}
 use Rattle.outside.specs.Folders.{FolderHistory}
@@ -23,10 +22,10 @@ use Rattle.prospect.specs.Doubled.{HaveKey}
 use Rattle.prospect.specs.declared.listed.Listed.{Listed}
 use Rattle.scanned_files.proofs.Accounted.{is_by_scans}
 use Rattle.scanned_files.proofs.Listings.{removed_since, renamed_since}
-use Rattle.scanned_files.specs.Listings.{HasEntry, HasNoMore, WasListedBy}
+use Rattle.scanned_files.specs.Listings.{WasListedBy}
 use Rattle.ship_core.proofs.Members.{none_there, there_cases}
 use Rattle.told_scans.proofs.AskedEvents.{longer}
-use Rattle.told_scans.proofs.Members.{member_is, some_is}
+use Rattle.told_scans.proofs.Members.{some_is}
 use Rattle.told_scans.proofs.ToldScans.{go_on, nothing_done, scan_goes_on, told_between}
 use Rattle.told_scans.specs.ToldScan.{IsTold, ToldScan}
 use Rattle.told_scans.specs.ToldScans.{AreToldFrom, AreToldIn, ToldRun, moments_in, run_by}

@@ -1,6 +1,6 @@
 -- Turns that found memory, and after which no last epoch is over, answer each fall of a length, lane by lane, of each file whose tail counted
 -- no fault.
-use Rattle.std.proofs.Common.{◌≡◌, ◌≢◌, ℕ, ◌||◌, List, [], ◌∷◌, Contains, IsSome, Option, refl, sym, subst, arith}
+use Rattle.std.proofs.Common.{◌≡◌, ◌≢◌, ℕ, ◌||◌, List, [], ◌∷◌, Contains, IsSome, Option, sym, subst, arith}
 use Rattle.std.specs.List.{AllByRecursion}
 use Rattle.accounts.specs.Opened.{Opened}
 use Rattle.accounts.specs.Turned.{Turned}
@@ -26,7 +26,7 @@ use Rattle.run_steps.proofs.Answered.{IsAnsweredSo, answers_on}
 use Rattle.run_steps.proofs.Lanes.{same_but_passes}
 use Rattle.run_steps.proofs.ReadBehind.{FoundMemory, before_stays, not_risen}
 use Rattle.run_steps.proofs.ReadPlaces.{OnlyRead}
-use Rattle.run_steps.proofs.Turning.{EachTurnKeeps, NotOut, Tells, lanes_keep, tell_on}
+use Rattle.run_steps.proofs.Turning.{EachTurnKeeps, NotOut, lanes_keep, tell_on}
 
 -- the turn found memory, and no last epoch is over by it
 pub record TriedOn (step : Step) : Type 0 where

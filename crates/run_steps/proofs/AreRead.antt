@@ -1,10 +1,10 @@
 -- Tails that were read behind each look at their length are so as they are opened, and once they are closed.
-use Rattle.std.proofs.Common.{◌≡◌, ℕ, suc, ◌<◌, false, drop, List, [], ◌∷◌, ◌++◌, length, Option, Some, None, IfSome, refl, sym, ap, subst, ◌∙◌}
+use Rattle.std.proofs.Common.{◌≡◌, ℕ, suc, ◌<◌, false, drop, List, [], ◌++◌, length, Option, Some, None, IfSome, sym, ap, subst, ◌∙◌}
 use Rattle.std.specs.List.{AllByRecursion}
 use Rattle.std.specs.Option.{option_map_or}
 use Rattle.harvester.specs.HasTold.{looks_so_far}
 use Rattle.kept_rows.specs.Trace.{Closing, closing_in}
-use Rattle.outside.specs.Folders.{Closed, Event, FolderHistory}
+use Rattle.outside.specs.Folders.{Event, FolderHistory}
 use Rattle.outside.specs.Tails.{TailHistory}
 use Rattle.outside.specs.declared.history.Look.{Look}
 use Rattle.told_scans.specs.OnlyAsked.{WasClosedWith}

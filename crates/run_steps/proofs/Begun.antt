@@ -1,5 +1,5 @@
 -- How a listed file begins, from what each call answered.
-use Rattle.std.proofs.Common.{◌≡◌, ◌⊎◌, ◌↔◌, inl, inr, ℕ, List, IsTrue, Bool, true, false, Option, None, Some, Result, Ok, Err, OnOk, refl, sym, ap, subst, ◌∙◌}
+use Rattle.std.proofs.Common.{◌≡◌, ◌⊎◌, ◌↔◌, inl, inr, ℕ, List, IsTrue, Bool, true, Option, None, Some, Result, Ok, Err, OnOk, refl, ap, subst, ◌∙◌}
 use Rattle.event_tree.specs.declared.settings.Settings.{Settings}
 use Rattle.file_identity.specs.declared.identity.Identity.{Identity}
 use Rattle.file_identity.specs.declared.identity.Identity.TheVariants.{Key, TooSmall}

@@ -1,5 +1,5 @@
 -- A file that is opened again leaves its last opening behind those that came before, each of which ends before the next one.
-use Rattle.std.proofs.Common.{◌≡◌, ◌⊎◌, inl, inr, ⊎_elim, ℕ, ◌+◌, ◌==◌, ◌<◌, ◌≤◌, nat_le, Bool, true, false, List, [], ◌∷◌, ◌++◌, Contains, IsSome, Option, None, Some, map, if◌then◌else◌, refl, sym, ap, subst, ◌∙◌, arith}
+use Rattle.std.proofs.Common.{◌≡◌, ◌⊎◌, inl, inr, ℕ, ◌+◌, ◌==◌, ◌<◌, ◌≤◌, nat_le, Bool, true, false, List, [], ◌∷◌, ◌++◌, Contains, IsSome, Option, Some, map, if◌then◌else◌, refl, sym, ap, subst, ◌∙◌, arith}
 use Rattle.std.proofs.lemmas.Bool.{cond-false, cond-true, eq-eqb, eqb-true, ne_eqb}
 use Rattle.std.proofs.lemmas.List.{map-append}
 use Rattle.std.proofs.lemmas.List.Elements.{Contains-append_right}
@@ -12,19 +12,18 @@ use Rattle.accounts.proofs.Apart.{EachAdjoins}
 use Rattle.accounts.proofs.InTurn.{least_epoch, reaches}
 use Rattle.accounts.proofs.Lists.{each_last}
 use Rattle.accounts.proofs.Orderly.{member_is, same_item}
-use Rattle.harvester.specs.History.{History, Telling, told_to}
+use Rattle.harvester.specs.History.{History, told_to}
 use Rattle.kept_rows.specs.Followed.{Start}
 use Rattle.kept_rows.specs.Scans.{AreDistinct}
 use Rattle.outside.specs.Folders.{FolderHistory}
-use Rattle.ship_core.proofs.Members.{first_there, later_there, none_there, there_cases}
-use Rattle.slot_parts.specs.Account.{goes_on}
+use Rattle.ship_core.proofs.Members.{first_there, none_there, there_cases}
 use Rattle.slot_parts.specs.Tellings.{tellings_in}
 use Rattle.wire_base.specs.declared.numbers.Slot.{Slot}
 use Rattle.run_steps.specs.Begun.{IsKeyed}
 use Rattle.run_steps.specs.Earlier.{AreEarlier, AreInTurn, AreOfOneFile, EndsBefore, GoesBefore, GoesOnFrom, IsEarlierSo, first_of}
 use Rattle.run_steps.specs.LastEpoch.{AreToldInEpochs}
-use Rattle.run_steps.specs.SoFar.{Earlier, Left, as_opened, opened_before, with_opening}
-use Rattle.run_steps.proofs.WithOpening.{IsOther, next_there, others_there}
+use Rattle.run_steps.specs.SoFar.{Earlier, Left, opened_before, with_opening}
+use Rattle.run_steps.proofs.WithOpening.{next_there, others_there}
 
 abbrev pub slot_numbers : List Opened → List ℕ
 slot_numbers opened = map (λ (one : Opened). one.begin.slot.0) opened

@@ -1,5 +1,5 @@
 -- Files of different keys are no more than the rows, and the files without one.
-use Rattle.std.proofs.Common.{◌≡◌, inl, inr, ℕ, zero, suc, ◌+◌, ◌≤◌, Bool, true, false, Any, Contains, List, [], ◌∷◌, length, map, take, Option, None, Some, is_none, if◌then◌else◌, refl, sym, ap, subst, ◌∙◌, arith}
+use Rattle.std.proofs.Common.{◌≡◌, inl, inr, ℕ, zero, suc, ◌+◌, ◌≤◌, Bool, true, false, Contains, List, [], ◌∷◌, length, map, take, Option, None, Some, is_none, if◌then◌else◌, refl, sym, ap, subst, ◌∙◌, arith}
 use Rattle.std.proofs.lemmas.List.{length-map}
 use Rattle.std.specs.List.{filter}
 use Rattle.accounts.proofs.BegunRows.{found_key, found_there}

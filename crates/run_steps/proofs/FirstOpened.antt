@@ -1,11 +1,11 @@
 -- Each file as it was opened first is one of its openings, and each slot has such a one.
-use Rattle.std.proofs.Common.{◌≡◌, ◌⊎◌, inl, inr, ⊎_elim, ◌==◌, Bool, true, false, List, [], ◌∷◌, ◌++◌, Contains, map, if◌then◌else◌, sym, subst, ◌∙◌}
+use Rattle.std.proofs.Common.{◌≡◌, ◌==◌, Bool, true, false, List, [], ◌∷◌, ◌++◌, Contains, if◌then◌else◌, sym, subst, ◌∙◌}
 use Rattle.accounts.proofs.Backing.{mapped_there}
 use Rattle.accounts.proofs.Grounded.{of_map}
 use Rattle.accounts.specs.Opened.{Opened}
 use Rattle.ship_core.proofs.Members.{first_there, later_there}
 use Rattle.wire_base.specs.declared.numbers.Slot.{Slot}
-use Rattle.run_steps.specs.SoFar.{Earlier, as_opened, first_opened, opened_before, with_opening}
+use Rattle.run_steps.specs.SoFar.{Earlier, as_opened, first_opened, opened_before}
 use Rattle.run_steps.proofs.Ordering.{same_slots}
 
 pub first_within : (earlier : List Earlier) (opened : List Opened) (one : Opened) → Contains (first_opened earlier opened) one → Contains (opened_before earlier ++ opened) one

@@ -1,5 +1,5 @@
 -- A run that reads its files may follow them, and close the tail of a file that is at rest, or that changed.
-use Rattle.std.proofs.Common.{◌≡◌, ◌≢◌, [], ◌∷◌, ℕ, List, None, Option, Vec, refl}
+use Rattle.std.proofs.Common.{◌≡◌, [], ◌∷◌, ℕ, List, None, Option, Vec, refl}
 use Rattle.std.specs.declared.alloc.Global.{Global}
 use Rattle.lanes.specs.declared.lane.Lane.{Lane}
 use Rattle.outside.specs.Folders.{FolderHistory}

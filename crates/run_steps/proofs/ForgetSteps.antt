@@ -1,5 +1,5 @@
 -- Telling the keeper that a removed file is forgotten keeps what stands of a run, with one more file that is forgotten.
-use Rattle.std.proofs.Common.{◌≡◌, ℕ, ◌≤◌, List, [], ◌∷◌, ◌++◌, Option, None, Some, IfSome, sym, ap, subst, arith}
+use Rattle.std.proofs.Common.{ℕ, ◌≤◌, List, [], ◌∷◌, ◌++◌, Option, None, Some, IfSome, sym, ap, subst, arith}
 use Rattle.std.proofs.lemmas.List.{map-append}
 use Rattle.accounts.proofs.Lists.{each_last}
 use Rattle.accounts.proofs.Ordered.{one_more_orderly}
@@ -10,8 +10,7 @@ use Rattle.pass_sums.proofs.Weights.{weigh-append}
 use Rattle.rounds.specs.Crewed.{lanings}
 use Rattle.rounds.specs.Words.{Words}
 use Rattle.rounds.specs.declared.crew.Crew.{Crew}
-use Rattle.settle_box.specs.Senders.{notes}
-use Rattle.ship_core.specs.Orderly.{AreOrderly, IsBegun}
+use Rattle.ship_core.specs.Orderly.{IsBegun}
 use Rattle.ship_core.specs.RowOver.{slot_of}
 use Rattle.wire_base.specs.declared.note.Note.{Note}
 use Rattle.run_steps.specs.Began.{Began}

@@ -1,12 +1,11 @@
 -- The files that are forgotten are so still as another file is opened again.
-use Rattle.std.proofs.Common.{◌≡◌, ◌≢◌, ⊎_elim, ℕ, List, [], ◌∷◌, ◌++◌, Contains, sym, ap, subst, ◌∙◌}
+use Rattle.std.proofs.Common.{◌≡◌, ◌≢◌, ⊎_elim, List, ◌∷◌, ◌++◌, Contains, sym, ap, subst, ◌∙◌}
 use Rattle.std.proofs.lemmas.List.Elements.{Contains-append_cases, Contains-append_left, Contains-append_right}
 use Rattle.std.specs.List.{AllByRecursion}
 use Rattle.accounts.specs.Opened.{Opened}
 use Rattle.accounts.proofs.Grounded.{each_member}
 use Rattle.accounts.proofs.Orderly.{member_is}
 use Rattle.ship_core.proofs.Members.{there_cases}
-use Rattle.wire_base.specs.declared.numbers.Slot.{Slot}
 use Rattle.run_steps.specs.Forgotten.{AreForgotten, IsForgottenSo}
 use Rattle.run_steps.specs.LaterScans.{LaterScan}
 use Rattle.run_steps.specs.SoFar.{Forgotten, Left, with_opening}

@@ -1,11 +1,11 @@
 -- The files that are forgotten, as the run goes on: each keeps what it is forgotten for.
-use Rattle.std.proofs.Common.{◌≡◌, ◌⊎◌, inl, inr, ⊎_elim, List, [], ◌∷◌, ◌++◌, Contains, refl, subst}
+use Rattle.std.proofs.Common.{◌≡◌, List, [], ◌∷◌, ◌++◌, Contains, refl, subst}
 use Rattle.std.proofs.lemmas.List.Elements.{Contains-append_left}
 use Rattle.accounts.specs.Opened.{Opened}
 use Rattle.accounts.proofs.Lists.{each_then}
 use Rattle.ship_core.proofs.Members.{none_there}
 use Rattle.run_steps.specs.Forgotten.{AreForgotten, IsForgottenSo}
-use Rattle.run_steps.specs.LaterScans.{LaterScan, WasMissed}
+use Rattle.run_steps.specs.LaterScans.{LaterScan}
 use Rattle.run_steps.specs.SoFar.{Forgotten, Left}
 
 -- where no later scan was made, no file is

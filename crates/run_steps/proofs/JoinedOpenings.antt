@@ -1,7 +1,7 @@
 -- The files of a run over all their openings: what is known of each as it was opened last, and the openings that came before, put before it from the
 -- last one of them on. Each is reopened as its account asks for it, and begins as it was opened first.
 use Rattle.std.proofs.Common.{◌≡◌, ℕ, ◌==◌, Bool, true, false, List, [], ◌∷◌, ◌++◌, Contains, Some, map, if◌then◌else◌, refl, sym, ap, subst, ◌∙◌}
-use Rattle.std.proofs.lemmas.Bool.{cond-true, eq-eqb, eqb-true}
+use Rattle.std.proofs.lemmas.Bool.{eq-eqb, eqb-true}
 use Rattle.std.specs.List.{AllByRecursion}
 use Rattle.accounts.proofs.Backing.{mapped_there}
 use Rattle.accounts.proofs.Grounded.{each_member, of_map}
@@ -20,7 +20,7 @@ use Rattle.slot_parts.specs.Account.{goes_on}
 use Rattle.told_scans.proofs.Members.{some_is}
 use Rattle.wire_base.specs.declared.numbers.Slot.{Slot}
 use Rattle.run_steps.specs.Earlier.{AreInTurn, first_of}
-use Rattle.run_steps.specs.SoFar.{Earlier, as_opened, first_opened, opened_before, with_opening}
+use Rattle.run_steps.specs.SoFar.{Earlier, first_opened, opened_before, with_opening}
 use Rattle.run_steps.proofs.EarlierMore.{found, found_next, found_other, slot_numbers}
 use Rattle.run_steps.proofs.FirstOpened.{FirstOf, first_named}
 use Rattle.run_steps.proofs.Ordering.{same_slots}

@@ -1,9 +1,9 @@
 -- What one round tells of the files that harvesters turn, lane by lane.
-use Rattle.std.proofs.Common.{◌≡◌, ℕ, ◌+◌, ◌<◌, ◌^◌, ◌-◌, true, List, [], ◌∷◌, ◌++◌, map, append-nil, append_assoc, refl, sym, ap, subst, ◌∙◌, arith}
+use Rattle.std.proofs.Common.{◌≡◌, ℕ, ◌+◌, ◌<◌, ◌^◌, ◌-◌, List, [], ◌∷◌, ◌++◌, map, append-nil, append_assoc, refl, sym, ap, subst, ◌∙◌, arith}
 use Rattle.std.proofs.lemmas.List.{map-append}
 use Rattle.std.specs.List.{AllByRecursion, flat_map}
 use Rattle.accounts.specs.Opened.{Opened}
-use Rattle.accounts.specs.Turned.{Turned, notes_told, parcels_told, spans_in}
+use Rattle.accounts.specs.Turned.{Turned, notes_told, parcels_told}
 use Rattle.accounts.specs.Turning.{GaveMore, IsTurnedSo, Pairs, TellOn}
 use Rattle.accounts.specs.Watch.{Watch}
 use Rattle.accounts.proofs.Lists.{flat_map_both}

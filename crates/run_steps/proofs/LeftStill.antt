@@ -1,5 +1,5 @@
 -- What held of tails that were closed, if they counted no fault, holds once the folder's list is longer: each closing is the same.
-use Rattle.std.proofs.Common.{◌≡◌, suc, ◌<◌, ◌++◌, drop, length, List, Contains, Option, Some, None, IfSome, refl, sym, subst, ℕ}
+use Rattle.std.proofs.Common.{◌≡◌, suc, ◌<◌, drop, length, List, Contains, Option, Some, None, IfSome, refl, sym, subst, ℕ}
 use Rattle.std.specs.List.{AllByRecursion}
 use Rattle.accounts.proofs.Grounded.{each_member}
 use Rattle.accounts.proofs.Orderly.{member_is}

@@ -1,5 +1,5 @@
 -- Each opening of a run was listed by a scan: as first files are begun, as a file is opened again, and after a further scan.
-use Rattle.std.proofs.Common.{◌≡◌, ◌⊎◌, inl, inr, ⊎_elim, ℕ, ◌≤◌, List, [], ◌∷◌, ◌++◌, Contains, append_assoc, length, Option, Some, None, IfSome, refl, sym, ap, subst, ◌∙◌, arith}
+use Rattle.std.proofs.Common.{◌≡◌, ◌⊎◌, inl, inr, ⊎_elim, ◌≤◌, List, [], ◌∷◌, ◌++◌, Contains, append_assoc, length, Option, Some, None, IfSome, refl, sym, ap, subst, ◌∙◌, arith}
 use Rattle.std.proofs.lemmas.List.{map-append}
 use Rattle.std.proofs.lemmas.List.Elements.{Contains-append_cases, Contains-append_left, Contains-append_right}
 use Rattle.std.specs.List.{AllByRecursion}
@@ -20,7 +20,7 @@ use Rattle.wire_base.specs.declared.note.Begin.{Begin}
 use Rattle.wire_base.specs.declared.row.Row.{Row}
 use Rattle.run_steps.specs.Begun.{IsOpenedAsListedFirst}
 use Rattle.run_steps.specs.LaterScans.{LaterScan, WasMadeAfter, told_in}
-use Rattle.run_steps.specs.ListedSo.{IsByEntry, WasListedFirst, WasListedSo, newest_files}
+use Rattle.run_steps.specs.ListedSo.{IsByEntry, WasListedSo, newest_files}
 use Rattle.run_steps.specs.SoFar.{Earlier, opened_before, with_opening}
 use Rattle.run_steps.proofs.WithOpening.{members}
 

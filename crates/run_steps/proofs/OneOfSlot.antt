@@ -26,7 +26,7 @@ use Rattle.run_steps.specs.SoFar.{Left}
 use Rattle.run_steps.specs.Stands.{AreEachOnce, AreTurnedIn}
 use Rattle.run_steps.proofs.ChangedLanes.{ChangedAmong, before, changed_among}
 use Rattle.run_steps.proofs.LessOne.{all_in}
-use Rattle.run_steps.proofs.TailClosed.{files_once}
+use Rattle.run_steps.proofs.SlotsOnce.{files_once}
 
 abbrev slot_by : {T : Type 0} → Harvester T → Slot
 slot_by harvester = (begin_of harvester).slot

@@ -1,5 +1,5 @@
 -- A run that reads its files once is a run around its one scan: all listings are the scan's, and each opening that was made for a key is of one input.
-use Rattle.std.proofs.Common.{◌≡◌, ◌≤◌, ℕ, true, List, [], ◌∷◌, ◌++◌, Contains, drop, length, map, append-nil, Some, refl, sym, ap, subst, ◌∙◌, arith}
+use Rattle.std.proofs.Common.{◌≡◌, ◌≤◌, ℕ, true, List, [], ◌∷◌, ◌++◌, Contains, drop, length, map, append-nil, Some, sym, ap, subst, ◌∙◌, arith}
 use Rattle.std.proofs.Math.Seq.{drop-append_seam}
 use Rattle.std.specs.List.{AllByRecursion}
 use Rattle.accounts.specs.ByScans.{IsByScans}

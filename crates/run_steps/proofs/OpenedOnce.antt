@@ -1,7 +1,5 @@
 -- A run that reads its files once opens none again and forgets none: what stands of it is what stands with no openings before the last ones.
-use Rattle.std.proofs.Common.{◌≡◌, ℕ, true, List, [], refl, sym, subst}
-use Rattle.event_tree.specs.declared.settings.Settings.{Settings}
-use Rattle.outside.specs.Folders.{FolderHistory}
+use Rattle.std.proofs.Common.{◌≡◌, true, List, [], subst}
 use Rattle.rounds.specs.Crewed.{lanings}
 use Rattle.rounds.specs.Settled.{AreSettledIn}
 use Rattle.rounds.specs.Words.{Words}

@@ -17,7 +17,7 @@ use Rattle.accounts.proofs.Backing.{mapped_there}
 use Rattle.accounts.proofs.Begins.{HasItsBegin}
 use Rattle.accounts.proofs.Ends.{is_in_epochs}
 use Rattle.accounts.proofs.Ground.{item_of}
-use Rattle.accounts.proofs.Grounded.{IsMapped, each_member, of_map}
+use Rattle.accounts.proofs.Grounded.{each_member, of_map}
 use Rattle.accounts.proofs.Lists.{each_then}
 use Rattle.accounts.proofs.Often.{often_back, often_contains}
 use Rattle.accounts.proofs.Ordered.{SettlesNothing, SettlesSo, orderly_more}

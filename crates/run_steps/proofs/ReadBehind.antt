@@ -1,9 +1,9 @@
 -- Where each look at the length is followed by a read, a turn leaves it so that met no fault and found memory.
-use Rattle.std.proofs.Common.{◌≡◌, ◌≢◌, ◌⊎◌, inl, inr, ℕ, ◌≤◌, ◌<◌, ◌||◌, Bool, true, false, List, [], ◌∷◌, ◌++◌, append-nil, Option, Some, None, IfSome, refl, sym, ap, subst, ◌∙◌, arith}
+use Rattle.std.proofs.Common.{◌≡◌, ◌≢◌, inl, inr, ℕ, ◌||◌, false, List, [], ◌∷◌, ◌++◌, append-nil, Option, Some, None, IfSome, refl, sym, ap, subst, ◌∙◌, arith}
 use Rattle.accounts.proofs.Askings.{asking_reads}
 use Rattle.harvester.specs.HasTold.{HasTold, begin_of}
 use Rattle.harvester.specs.Held.{Held}
-use Rattle.harvester.specs.History.{Asks, Ended, History, Reads, Stage}
+use Rattle.harvester.specs.History.{History, Reads, Stage}
 use Rattle.harvester.specs.Looked.{IsLookedAt, StandBehind}
 use Rattle.harvester.specs.Standing.{stage_of}
 use Rattle.harvester.specs.TurnLooks.{AreOfReading, AreOfTurn, AskForKey, IsReadAt, LooksOn, StandBehindLength}
@@ -15,14 +15,12 @@ use Rattle.harvester.specs.declared.stage.Stage.TheVariants as stage
 use Rattle.harvester.specs.declared.turn.Turn.{Turn}
 use Rattle.harvester.specs.declared.turn.Turn.TheVariants as turn
 use Rattle.file_identity.specs.Answers.{with_numbers}
-use Rattle.file_looks.specs.Segment.{read_to}
 use Rattle.lanes.specs.Step.{Step}
-use Rattle.lanes.specs.Turned.{HasTurned}
 use Rattle.outside.specs.Counts.{Rose}
 use Rattle.outside.specs.Files.{File}
 use Rattle.outside.specs.Tails.{TailHistory}
 use Rattle.outside.specs.declared.history.Look.{Look}
-use Rattle.outside.specs.declared.history.Question.TheVariants.{Length, ReadAt}
+use Rattle.outside.specs.declared.history.Question.TheVariants.{Length}
 use Rattle.wire_base.specs.declared.note.Begin.{Begin}
 use Rattle.run_steps.specs.ReadBehind.{ReadsBehind, ReadsWhereNoFault}
 use Rattle.run_steps.proofs.ReadPlaces.{OnlyRead, behind_a_fall, behind_the_length, only_reads, place_after, read_up_to, reads_then, stays_there}

@@ -1,9 +1,8 @@
 -- Up to where looks read, as reads behind the length count it, and as the segments of the looks do.
-use Rattle.std.proofs.Common.{◌≡◌, ℕ, ◌+◌, ◌<◌, ◌≤◌, Bool, true, false, List, [], ◌∷◌, ◌++◌, append-nil, None, Some, refl, sym, ap, subst, ◌∙◌, arith, if◌then◌else◌, nat_le, nat_lt}
+use Rattle.std.proofs.Common.{◌≡◌, ℕ, ◌+◌, ◌<◌, ◌≤◌, Bool, true, false, List, [], ◌∷◌, ◌++◌, append-nil, None, Some, refl, sym, ap, subst, ◌∙◌, arith, if◌then◌else◌, nat_le}
 use Rattle.std.proofs.lemmas.Bool.{le-leb, le-ltb, leb-true, lt-ltb, ltb-true}
 use Rattle.std.specs.List.{AllByRecursion}
 use Rattle.file_identity.specs.AskedAgain.{IsRead}
-use Rattle.file_looks.proofs.Cutting.{by_choice}
 use Rattle.file_looks.specs.Segment.{Cut, Segment, cut_from, read_to, segments_of, with_fall, with_look}
 use Rattle.file_looks.specs.Step.{falls_below, place_behind, reaches, read_by, step_at, steps_from}
 use Rattle.outside.specs.declared.history.Look.{Look}

@@ -1,13 +1,12 @@
 -- How a file is opened again, from what each call answered.
-use Rattle.std.proofs.Common.{◌≡◌, ◌⊎◌, inl, inr, Option, Some, Result, Ok, Err, OnOk, refl, sym, ap, subst, ◌∙◌}
+use Rattle.std.proofs.Common.{◌≡◌, ◌⊎◌, inl, inr, Option, Some, Result, Ok, Err, OnOk, ap, subst, ◌∙◌}
 use Rattle.event_tree.specs.declared.settings.Settings.{Settings}
 use Rattle.file_identity.specs.declared.identity_error.IdentityError.TheVariants.{NoNative as WithoutNumbers, ReadFault}
 use Rattle.harvester.specs.declared.harvester.Harvester.{Harvester}
 use Rattle.outside.specs.declared.failed.FolderError.{FolderError}
-use Rattle.outside.specs.declared.failed.FolderError.TheVariants.{Failed as Failing, NoMemory as WithoutMemory}
 use Rattle.report.specs.declared.passing.Why.TheVariants.{Doubled, Gone, Moved, Old, Small}
 use Rattle.rounds.specs.Words.{TailWords}
-use Rattle.run_steps.specs.Beginning.{Beginning, ClosesAsked, ClosesFile, ClosesUntold, FailsToTell, FollowsListed, ForSomeReason, HasOpened, HasOtherKey, IsOpenedFor, IsTooSmall, OpensNone, SameLanes, TellsKey}
+use Rattle.run_steps.specs.Beginning.{Beginning, ClosesAsked, ClosesFile, ClosesUntold, FailsToTell, ForSomeReason, HasOpened, HasOtherKey, IsOpenedFor, IsTooSmall, SameLanes, TellsKey}
 use Rattle.run_steps.specs.FolderSeen.{Closes, FolderSeen, OpensBy}
 use Rattle.run_steps.specs.Reopening.{AnnouncesRise, FollowsAgain, FollowsListedAgain, GivesUpAgain, KnownFile, ReopensOne, TakesInAgain}
 use Rattle.run_steps.specs.declared.begin_error.BeginError.{BeginError}

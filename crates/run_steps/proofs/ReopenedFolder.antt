@@ -1,5 +1,5 @@
 -- What the folder showed once a file was opened again: its last opening is among those before, and the next one took its place.
-use Rattle.std.proofs.Common.{◌≡◌, ◌⊎◌, inl, inr, ⊎_elim, ℕ, ◌==◌, ◌<◌, Bool, true, false, List, [], ◌∷◌, ◌++◌, Contains, length, Option, Some, None, IfSome, refl, sym, ap, subst, ◌∙◌, arith}
+use Rattle.std.proofs.Common.{◌≡◌, ◌⊎◌, inl, inr, ⊎_elim, ◌==◌, Bool, true, false, List, [], ◌∷◌, ◌++◌, Contains, length, refl, sym, ap, subst, ◌∙◌, arith}
 use Rattle.std.proofs.lemmas.Bool.{eq-eqb, eqb-true}
 use Rattle.std.proofs.lemmas.List.{map-append}
 use Rattle.std.proofs.lemmas.List.Elements.{Contains-append_cases, Contains-append_left, Contains-append_right}
@@ -19,7 +19,7 @@ use Rattle.run_steps.specs.LaterScans.{told_in}
 use Rattle.run_steps.specs.SoFar.{Earlier, FilesSoFar, Left, SoFar, files_of, opened_before, openings_within, with_opening}
 use Rattle.run_steps.proofs.Closing.{closed_in_turn}
 use Rattle.run_steps.proofs.EarlierMore.{slot_numbers}
-use Rattle.run_steps.proofs.Openings.{Adds, AreThose, all_opened, below_all, done_on, earlier_stays, left_stays, openings_below, still_stays, with_more}
+use Rattle.run_steps.proofs.Openings.{Adds, AreThose, below_all, done_on, earlier_stays, left_stays, openings_below, still_stays, with_more}
 use Rattle.run_steps.proofs.WithOpening.{IsOther, all_apart, members, next_there, others_there}
 
 -- ---- lists

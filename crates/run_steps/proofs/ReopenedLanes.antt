@@ -1,5 +1,5 @@
 -- Harvesters that stand for files go on standing for them in another list of openings that has those of their slots.
-use Rattle.std.proofs.Common.{◌≡◌, ℕ, List, [], ◌∷◌, Contains}
+use Rattle.std.proofs.Common.{◌≡◌, ℕ, List, [], ◌∷◌, Contains, map}
 use Rattle.std.proofs.lemmas.List.Elements.{Contains-append_left, Contains-append_right}
 use Rattle.accounts.specs.Opened.{Opened}
 use Rattle.accounts.specs.Turned.{Turned}
@@ -9,8 +9,12 @@ use Rattle.harvester.specs.declared.harvester.Harvester.{Harvester}
 use Rattle.lanes.specs.Laning.{Laning}
 use Rattle.rounds.specs.Words.{TailWords}
 use Rattle.ship_core.proofs.Members.{first_there, later_there}
+use Rattle.run_steps.specs.SoFar.{Left}
 use Rattle.run_steps.specs.Stands.{AreTurnedIn}
 use Rattle.run_steps.proofs.Admitting.{all_of}
+
+abbrev pub turned_in : List Left → List Turned
+turned_in left = map (λ (l : Left). l.turned) left
 
 module _ {T : Type 0} (tails : TailWords T) (watch : Watch) (opened others : List Opened) (moments : List ℕ) (among : List Turned)
     (still : (t : Turned) (file : Opened) → Contains among t → t.slot ≡ file.begin.slot → Contains opened file → Contains others file) where

@@ -1,9 +1,8 @@
 -- A file that is opened again keeps what stands of a run, with one more opening before the last ones.
-use Rattle.std.proofs.Common.{◌≡◌, ◌≢◌, ◌⊎◌, inl, inr, ⊎_elim, ℕ, ◌+◌, ◌==◌, ◌<◌, ◌≤◌, ◌^◌, ◌-◌, Bool, true, false, List, [], ◌∷◌, ◌++◌, Contains, map, Option, Some, None, IsSome, IfSome, if◌then◌else◌, append-nil, refl, sym, ap, subst, ◌∙◌, arith}
+use Rattle.std.proofs.Common.{◌≡◌, inl, ⊎_elim, ℕ, ◌==◌, ◌<◌, ◌≤◌, ◌^◌, ◌-◌, Bool, true, false, List, [], ◌∷◌, ◌++◌, Contains, map, Option, Some, None, IsSome, IfSome, if◌then◌else◌, append-nil, refl, sym, ap, subst, ◌∙◌, arith}
 use Rattle.std.proofs.lemmas.List.{map-append}
 use Rattle.std.proofs.lemmas.List.Elements.{Contains-append_left, Contains-append_right}
-use Rattle.std.specs.Prelude.{slice_get}
-use Rattle.std.specs.List.{AllByRecursion, flat_map}
+use Rattle.std.specs.List.{AllByRecursion, flat_map, slice_get}
 use Rattle.accounts.specs.FollowedFile.{start_in}
 use Rattle.accounts.specs.Opened.{IsTailOf, Opened}
 use Rattle.accounts.specs.ToldFile.{IsToldFile}
@@ -43,7 +42,7 @@ use Rattle.rounds.specs.Settled.{spans_told}
 use Rattle.rounds.specs.Words.{Words}
 use Rattle.rounds.specs.declared.crew.Crew.{Crew}
 use Rattle.settle_box.specs.Senders.{notes}
-use Rattle.ship_core.proofs.Members.{first_there, later_there, none_there, there_cases}
+use Rattle.ship_core.proofs.Members.{there_cases}
 use Rattle.ship_core.specs.Orderly.{AreOrderly}
 use Rattle.slot_parts.specs.Tellings.{tellings_in}
 use Rattle.wire_base.specs.declared.note.Note.{Note}
@@ -60,7 +59,7 @@ use Rattle.run_steps.specs.OpenedAgain.{IsClosedLast, IsOpenedAgain, goes_on_beh
 use Rattle.run_steps.specs.RunState.{Finished, Leaving, Reading}
 use Rattle.run_steps.specs.Releasing.{closing_of, with_events}
 use Rattle.run_steps.specs.Shown.{HasShown, IsTurnedIn, WasClosedAs}
-use Rattle.run_steps.specs.SoFar.{Earlier, Left, SoFar, all_told, announced_by, announced_in, files_in, files_of, first_opened, forgets_in, notes_of, told_before, noted_since, with_opening}
+use Rattle.run_steps.specs.SoFar.{Earlier, Left, SoFar, all_told, announced_by, announced_in, files_in, files_of, first_opened, forgets_in, told_before, noted_since, with_opening}
 use Rattle.run_steps.specs.Stands.{AreEachOnce, AreNoted, AreTurnedIn, HaveGiven, IsLeftSo, Notes, Stands, watch_of}
 use Rattle.run_steps.specs.Telling.{TellsNotes}
 use Rattle.run_steps.proofs.Admitting.{TurnedWith, all_of, booked_by, each_still, notes_same, often_mapped, parcels_same, passes_same, placed_by, spans_often, spans_same, turned_at}
@@ -68,7 +67,7 @@ use Rattle.run_steps.proofs.BeginningOne.{at_phase}
 use Rattle.run_steps.proofs.BeginningSteps.{shown_tells}
 use Rattle.run_steps.proofs.BegunFolder.{both_are}
 use Rattle.run_steps.proofs.BegunNotes.{areas_more, counted_more, got_same, noted_more, stores_more}
-use Rattle.run_steps.proofs.EarlierMore.{one_more_earlier, slot_numbers, the_last}
+use Rattle.run_steps.proofs.EarlierMore.{one_more_earlier, slot_numbers}
 use Rattle.run_steps.proofs.ForgottenOn.{forgotten_left}
 use Rattle.run_steps.proofs.ForgottenApart.{forgotten_again}
 use Rattle.run_steps.proofs.Grounds.{all_backed}
@@ -76,16 +75,10 @@ use Rattle.run_steps.proofs.ListedSo.{listed_again}
 use Rattle.run_steps.proofs.Openings.{adds_left, adds_opening, closed_at_once, still_open_now, with_more}
 use Rattle.run_steps.proofs.Ordering.{distinct_slots, slot_begun}
 use Rattle.run_steps.proofs.ReopenedFolder.{it_there, opened_again_done, others_left, with_it_there}
-use Rattle.run_steps.proofs.ReopenedLanes.{turned_lanes}
-use Rattle.run_steps.proofs.TailClosed.{files_once}
+use Rattle.run_steps.proofs.ReopenedLanes.{turned_in, turned_lanes}
+use Rattle.run_steps.proofs.SlotsOnce.{files_once, slots_of}
 use Rattle.run_steps.proofs.TailOpened.{IsShown, opened_now, told_unread}
 use Rattle.run_steps.proofs.WithOpening.{IsOther, each_with, first_same, next_there, others_there, rise_with, slots_with}
-
-abbrev slots_of : List Turned → List Slot
-slots_of files = map (λ (turned : Turned). turned.slot) files
-
-abbrev turned_in : List Left → List Turned
-turned_in left = map (λ (l : Left). l.turned) left
 
 module _ {T W L D : Type 0} (words : Words T W L D) (reads : (disk : D) → IfSome (words.disks.contents disk) (words.disks.images disk))
     (counts : (disk : D) (at : ℕ) (image : List ℕ) → at ≤ words.disks.moment disk → words.disks.images disk image → words.disks.images_since disk at image)

@@ -1,6 +1,6 @@
 -- A run that ended before it followed a file is accounted for, too: what it opened it only asked for keys, it sent nothing, and its areas
 -- give the rows that they gave before.
-use Rattle.std.proofs.Common.{◌≡◌, ◌≢◌, ◌⊎◌, inl, inr, ℕ, zero, suc, ◌≤◌, ◌<◌, true, List, [], ◌∷◌, ◌++◌, Contains, drop, length, map, append_assoc, append-nil, Option, Some, None, IsSome, refl, sym, ap, subst, ◌∙◌, arith}
+use Rattle.std.proofs.Common.{◌≡◌, ◌⊎◌, inl, inr, ℕ, zero, suc, ◌≤◌, ◌<◌, true, List, [], ◌∷◌, ◌++◌, Contains, drop, length, map, append_assoc, append-nil, Option, Some, None, IsSome, refl, sym, ap, subst, ◌∙◌, arith}
 use Rattle.std.proofs.Math.Seq.{drop-append_seam, drop-length}
 use Rattle.std.proofs.lemmas.Bool.{cases_lt}
 use Rattle.std.proofs.lemmas.Option.{slice_get_past}
@@ -61,7 +61,6 @@ use Rattle.told_scans.specs.OnlyAsked.{HasOnlyAsked}
 use Rattle.run_steps.specs.ScannedSome.{HasScannedSome}
 use Rattle.run_steps.specs.Shown.{HasGiven}
 use Rattle.run_steps.specs.declared.met.Met.{Met}
-use Rattle.run_steps.specs.declared.met.Met.TheVariants.{Done}
 use Rattle.told_scans.proofs.AskedEvents.{all_asked, asked_none, event_was, goes_on_asking, some_asked, goes_on_further}
 use Rattle.run_steps.proofs.NamedInputs.{inputs_have_own_ids}
 use Rattle.run_steps.proofs.ImagesHold.{images_hold, ordered_at_rest, together_hold}

@@ -48,7 +48,7 @@ use Rattle.run_steps.specs.ListedSo.{WasListedSo}
 use Rattle.run_steps.specs.ReadBehind.{ReadsBehind}
 use Rattle.run_steps.specs.RunState.{Phase, RunState}
 use Rattle.run_steps.specs.Shown.{HasDone, HasShown, IsStillOpen, WasClosedAs, WasClosedInTurn, WasOpenedSince, openings_of}
-use Rattle.run_steps.specs.SoFar.{Earlier, Left, SoFar, files_of, first_opened, openings_within}
+use Rattle.run_steps.specs.SoFar.{Left, SoFar, files_of, first_opened, openings_within}
 use Rattle.run_steps.specs.Stands.{AreTurnedIn, HoldsWhereNoFault, IsLeftSo, Stands, watch_of}
 use Rattle.run_steps.proofs.EarlierOn.{earlier_watched}
 use Rattle.run_steps.proofs.LeftStill.{left_still}

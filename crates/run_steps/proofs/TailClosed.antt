@@ -1,10 +1,9 @@
 -- Tails that are closed keep what stands of a run: their files are left, with what the tails told.
-use Rattle.std.proofs.Common.{◌≡◌, ◌≢◌, ◌⊎◌, inl, inr, ⊎_elim, ℕ, suc, ◌+◌, ◌≤◌, ◌<◌, ◌^◌, ◌-◌, false, drop, List, [], ◌∷◌, ◌++◌, Contains, length, length-append, map, append_assoc, Option, Some, None, IsSome, IfSome, refl, sym, ap, subst, ◌∙◌, arith}
+use Rattle.std.proofs.Common.{◌≡◌, ◌≢◌, ◌⊎◌, inl, inr, ⊎_elim, ℕ, suc, ◌≤◌, ◌<◌, ◌^◌, ◌-◌, false, drop, List, [], ◌∷◌, ◌++◌, Contains, length, length-append, map, append_assoc, Option, Some, None, IsSome, IfSome, refl, sym, ap, subst, ◌∙◌, arith}
 use Rattle.std.proofs.lemmas.List.{map-append}
 use Rattle.std.proofs.lemmas.List.Elements.{Contains-append_left, Contains-append_right}
-use Rattle.std.specs.List.{AllByRecursion, flat_map, slice_get}
+use Rattle.std.specs.List.{AllByRecursion, flat_map}
 use Rattle.accounts.specs.FollowedFile.{MayReopenAt}
-use Rattle.accounts.specs.Once.{AreOnce}
 use Rattle.accounts.specs.Opened.{IsTailOf, Opened}
 use Rattle.accounts.specs.ToldFile.{IsReadThrough}
 use Rattle.accounts.specs.Turned.{Turned, notes_told, parcels_told, spans_in}
@@ -14,12 +13,11 @@ use Rattle.accounts.proofs.Backing.{mapped_there}
 use Rattle.accounts.proofs.Grounded.{each_member}
 use Rattle.accounts.proofs.Joining.{same_slot, tells_slots, told_as_often}
 use Rattle.accounts.proofs.Lists.{each_last}
-use Rattle.accounts.proofs.Often.{often_back, often_contains, often_then, once_apart, once_more, once_none, once_often}
+use Rattle.accounts.proofs.Often.{often_back, often_contains, often_then, once_apart, once_often}
 use Rattle.accounts.proofs.Orderly.{member_is}
 use Rattle.harvester.specs.HasTold.{begin_of}
 use Rattle.harvester.specs.declared.harvester.Harvester.{Harvester}
 use Rattle.harvester.specs.declared.stage.Stage.TheVariants as stage
-use Rattle.kept_rows.specs.Scans.{AreDistinct}
 use Rattle.kept_rows.specs.Trace.{closing_in}
 use Rattle.outside.specs.Folders.{Closed, Event, FolderHistory}
 use Rattle.outside.specs.Folders as folders
@@ -40,7 +38,6 @@ use Rattle.wire_base.specs.declared.note.Begin.{Begin}
 use Rattle.wire_base.specs.declared.note.Note.{Note}
 use Rattle.wire_base.specs.declared.numbers.Slot.{Slot}
 use Rattle.run_steps.specs.Began.{Began}
-use Rattle.run_steps.specs.Begun.{AreSlotsFrom}
 use Rattle.run_steps.specs.Earlier.{IsEarlierSo}
 use Rattle.run_steps.specs.ClosesTail.{ClosesTail, ClosesTails, IsResting, LetsGoAt, Readers}
 use Rattle.run_steps.specs.Growing.{IsGrownFrom}
@@ -52,7 +49,7 @@ use Rattle.run_steps.specs.RunState.{Finished, Following, Halted, HaltedFollowin
 use Rattle.told_scans.specs.OnlyAsked.{IsNoListing, WasClosedWith, WasOnlyAsked}
 use Rattle.told_scans.proofs.ToldScans.{nothing_appended}
 use Rattle.told_scans.proofs.ScansPlaced.{between_on}
-use Rattle.run_steps.specs.Shown.{HasDone, HasShown, IsStillOpen, openings_of, WasClosedAs, WasClosedInTurn, WasOpenedSince}
+use Rattle.run_steps.specs.Shown.{HasDone, HasShown, IsStillOpen, WasClosedAs, WasClosedInTurn, WasOpenedSince}
 use Rattle.run_steps.specs.LaterScans.{told_in}
 use Rattle.run_steps.specs.SoFar.{Earlier, Left, SoFar, all_told, books_of, files_in, files_of, notes_of, opened_before, openings_within, told_before}
 use Rattle.run_steps.specs.Stands.{AreAnswered, AreEachOnce, Books, BooksNow, Files, FilesNow, HaveGiven, HoldsWhereNoFault, IsFollowing, IsLeftRead, IsLeftSo, MayTell, ReadsYet, watch_of}
@@ -71,44 +68,7 @@ use Rattle.run_steps.proofs.LeftStill.{left_still}
 use Rattle.run_steps.proofs.LessOne.{all_in, each_in, less_in, often_in, one_in, some_in}
 use Rattle.run_steps.proofs.ListParts.{got_first, got_in, parts_of}
 use Rattle.run_steps.proofs.LettingGo.{StandsFor, each_kept, notes_kept, one_was, parcels_kept, passes_kept, some_kept, spans_kept, stands_for}
-
--- ---- slots, each once
-
-abbrev slots_in : List Opened → List Slot
-slots_in opened = map (λ (one : Opened). one.begin.slot) opened
-
-abbrev slots_of : List Turned → List Slot
-slots_of files = map (λ (turned : Turned). turned.slot) files
-
-pub not_below : (least : ℕ) (opened : List Opened) (slot : Slot) → AreSlotsFrom least opened → Contains (slots_in opened) slot → least ≤ slot.0
-not_below least [] slot rise there = absurd (none_there slot there)
-not_below least (one ∷ opened) slot rise there = by_case (there_cases one.begin.slot slot (slots_in opened) there) (not_below (one.begin.slot.0 + 1) opened slot rise.1)
-  where
-    by_case : (one.begin.slot ≡ slot) ⊎ Contains (slots_in opened) slot → (Contains (slots_in opened) slot → one.begin.slot.0 + 1 ≤ slot.0) → least ≤ slot.0
-    by_case (inl same) later = let is : one.begin.slot.0 ≡ slot.0 = ap (λ (s : Slot). s.0) same in let low = rise.0 in omega (arith, is, low)
-    by_case (inr behind) later = let more = later behind in let low = rise.0 in omega (arith, more, low)
-
-rising_once : (least : ℕ) (opened : List Opened) → AreSlotsFrom least opened → AreOnce same_slot (slots_in opened)
-rising_once least [] rise = once_none same_slot tells_slots
-rising_once least (one ∷ opened) rise =
-    once_more same_slot tells_slots one.begin.slot (slots_in opened)
-    (λ there. let more = not_below (one.begin.slot.0 + 1) opened one.begin.slot rise.1 there in omega (arith, more)) (rising_once (one.begin.slot.0 + 1) opened rise.1)
-
-pub files_once : (opened : List Opened) (files : List Turned) → AreEachOnce opened files → AreOnce same_slot (slots_of files)
-files_once opened files once = once_often same_slot tells_slots (slots_in opened) (slots_of files) (often_back (slots_of files) (slots_in opened) once.are) (rising_once 0 opened once.rise)
-
--- of one opening there is one
-one_opened : (opened : List Opened) (one other : Opened) → AreDistinct (openings_of opened) → Contains opened one → Contains opened other → one.opening ≡ other.opening → one ≡ other
-one_opened [] one other apart there also same = absurd (none_there one there)
-one_opened (first ∷ opened) one other apart there also same =
-    by_case (there_cases first one opened there) (there_cases first other opened also) (λ x y. one_opened opened one other apart.1 x y same)
-  where
-    by_case : (first ≡ one) ⊎ Contains opened one → (first ≡ other) ⊎ Contains opened other → (Contains opened one → Contains opened other → one ≡ other) → one ≡ other
-    by_case (inl x) (inl y) later = sym x ∙ y
-    by_case (inl x) (inr y) later = absurd (apart.0 (subst (λ (n : ℕ). Contains (openings_of opened) n) (sym (ap (λ (o : Opened). o.opening) x ∙ same)) (mapped_there (λ (o : Opened). o.opening) opened other y)))
-    by_case (inr x) (inl y) later =
-        absurd (apart.0 (subst (λ (n : ℕ). Contains (openings_of opened) n) (sym (ap (λ (o : Opened). o.opening) y ∙ sym same)) (mapped_there (λ (o : Opened). o.opening) opened one x)))
-    by_case (inr x) (inr y) later = later x y
+use Rattle.run_steps.proofs.SlotsOnce.{files_once, one_opened, slots_in, slots_of}
 
 -- ---- what stands of files and books, in a phase in which tails may be closed
 

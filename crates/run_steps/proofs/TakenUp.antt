@@ -1,5 +1,5 @@
 -- A run that served each entry of its scan has taken up each that it did not pass over; so the key of each has a row, or lost it rightly.
-use Rattle.std.proofs.Common.{◌≡◌, ◌⊎◌, inl, inr, ℕ, List, Contains, map, Option, Some, refl}
+use Rattle.std.proofs.Common.{◌≡◌, ◌⊎◌, inl, inr, ℕ, List, map, Option, Some}
 use Rattle.std.specs.Prelude.{slice_get}
 use Rattle.std.specs.List.{AllByRecursion}
 use Rattle.accounts.proofs.Backing.{mapped_there}

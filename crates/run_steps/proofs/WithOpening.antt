@@ -14,7 +14,7 @@ use Rattle.told_scans.proofs.TriedAskings.{distinct_both}
 use Rattle.wire_base.specs.declared.numbers.Slot.{Slot}
 use Rattle.run_steps.specs.Begun.{AreSlotsFrom}
 use Rattle.run_steps.specs.Shown.{openings_of}
-use Rattle.run_steps.specs.SoFar.{Earlier, as_opened, first_opened, opened_before, with_opening}
+use Rattle.run_steps.specs.SoFar.{Earlier, as_opened, first_opened, with_opening}
 use Rattle.run_steps.proofs.Ordering.{slot_stays}
 
 -- ---- lists without doubles

@@ -1,7 +1,7 @@
 -- A worked file that is forgotten: it has two lines of two bytes each, a later scan misses it, and it is told to its end. The keeper is told that it ends
 -- at byte 4 of epoch 0. Refused are a Forget before its end was found, while its tail is open still, one at a place or in an epoch that was not told,
 -- one of an input that does not clean, and one without a later scan.
-use Rattle.std.proofs.Common.{◌≡◌, inl, inr, ⊎_elim, ℕ, ◌<◌, true, false, List, [], ◌∷◌, Contains, length, Some, codes, refl, sym, ap, subst, ◌∙◌, arith}
+use Rattle.std.proofs.Common.{◌≡◌, inl, ⊎_elim, ℕ, ◌<◌, true, false, List, [], ◌∷◌, Contains, length, Some, codes, refl, sym, ap, subst, ◌∙◌, arith}
 use Rattle.accounts.specs.Opened.{Opened}
 use Rattle.event_tree.specs.declared.input_rule.InputRule.{InputRule}
 use Rattle.harvester.specs.History.{Ended, History, Reads, Stage, Telling, left_to_tell, told_to}

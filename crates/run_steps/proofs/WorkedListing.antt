@@ -1,7 +1,7 @@
 -- Worked openings of one file by the scans of a run, which listed it with 9 bytes. One by the first scan, one before a later scan that did not list the
 -- file, and one by a later scan are such openings; another size, an opening that was made before the scan that listed the file, and one that was made
 -- after a scan that did not list it any more are refused. A tail that was closed before the next opening is taken, and one that was closed after it is refused.
-use Rattle.std.proofs.Common.{◌≡◌, ◌⊎◌, inl, inr, ⊎_elim, ℕ, ◌<◌, ◌≤◌, true, List, [], ◌∷◌, ◌++◌, Contains, codes, length, IfSome, Some, refl, sym, ap, subst, ◌∙◌, arith}
+use Rattle.std.proofs.Common.{◌≡◌, inl, inr, ⊎_elim, ℕ, ◌≤◌, true, List, [], ◌∷◌, ◌++◌, Contains, codes, length, IfSome, Some, refl, sym, ap, subst, ◌∙◌, arith}
 use Rattle.accounts.specs.Opened.{Opened}
 use Rattle.event_tree.specs.declared.input_rule.InputRule.{InputRule}
 use Rattle.outside.specs.Files.{File}

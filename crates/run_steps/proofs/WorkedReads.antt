@@ -1,5 +1,5 @@
 -- Worked looks of a tail: each look at the length that is not below the place up to which was read is followed by a read there, or is not.
-use Rattle.std.proofs.Common.{◌≡◌, ℕ, false, true, List, [], ◌∷◌, Option, None, Some, refl, arith}
+use Rattle.std.proofs.Common.{◌≡◌, ℕ, false, true, [], ◌∷◌, Option, None, Some, refl, arith}
 use Rattle.kept_rows.proofs.Worked as worked
 use Rattle.kept_rows.specs.Run.{Scan}
 use Rattle.outside.specs.declared.history.Look.{Look}

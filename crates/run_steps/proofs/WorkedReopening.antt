@@ -7,7 +7,7 @@ use Rattle.accounts.specs.Opened.{Opened}
 use Rattle.accounts.specs.OpenedAgain.{announced_after}
 use Rattle.event_tree.specs.declared.input_rule.InputRule.{InputRule}
 use Rattle.event_tree.specs.declared.processor_rule.ProcessorRule.{ProcessorRule}
-use Rattle.harvester.specs.History.{Asks, Ended, History, Stage, told_to}
+use Rattle.harvester.specs.History.{Asks, Ended, History, told_to}
 use Rattle.kept_rows.specs.Followed.{Start}
 use Rattle.outside.specs.Files.{File}
 use Rattle.rounds.specs.Books.{Told}

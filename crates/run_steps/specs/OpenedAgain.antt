@@ -13,7 +13,7 @@ use Rattle.kept_rows.specs.Followed.{Start}
 use Rattle.pass_sums.specs.Weight.{AsOften}
 use Rattle.slot_parts.specs.Account.{goes_on}
 use Rattle.run_steps.specs.Earlier.{AreOfOneFile}
-use Rattle.run_steps.specs.SoFar.{Earlier, FilesSoFar, Left, SoFar, with_opening}
+use Rattle.run_steps.specs.SoFar.{FilesSoFar, Left, SoFar, with_opening}
 
 -- the last opening of its slot, whose tail was closed with what it told; the file is not forgotten
 pub record IsClosedLast (so_far : FilesSoFar) (last : Opened) : Type 0 where

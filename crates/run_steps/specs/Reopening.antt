@@ -1,13 +1,13 @@
 -- How a known file is opened again (Filebeat reference, filestream input, file identity; this project's profile): it is opened by its path and asked for its
 -- key as before; if it is still the file of that key, then the keeper is told its epoch, if that is another one than was told last, and the
 -- lane of its slot has its harvester.
-use Rattle.std.specs.Prelude.{◌≡◌, ◌≢◌, ◌⊎◌, ℕ, ◌+◌, ◌%◌, ◌<◌, ◌≤◌, nat_le, [], ◌∷◌, length, if◌then◌else◌, Option, Some, Result, Ok, Err}
+use Rattle.std.specs.Prelude.{◌≡◌, ◌≢◌, ◌⊎◌, ℕ, ◌+◌, ◌%◌, ◌<◌, ◌≤◌, nat_le, [], ◌∷◌, length, if◌then◌else◌, Result, Ok, Err}
 use Rattle.beat_config.specs.InRange.{AreInRange}
 use Rattle.event_tree.specs.declared.settings.Settings.{Settings}
 use Rattle.file_identity.specs.declared.identity_error.IdentityError.TheVariants.{NoNative as WithoutNumbers, ReadFault}
 use Rattle.harvester.specs.declared.harvester.Harvester.{Harvester}
 use Rattle.keeper.specs.Keeping.{Keeping}
-use Rattle.outside.specs.declared.failed.FolderError.TheVariants.{Failed as Failing, NoMemory as WithoutMemory}
+use Rattle.outside.specs.declared.failed.FolderError.TheVariants.{NoMemory as WithoutMemory}
 use Rattle.prospect.specs.ListedFiles.{IsListedInRange}
 use Rattle.report.specs.declared.passing.Why.TheVariants.{Doubled, Gone, Moved, Old, Small}
 use Rattle.restart_join.specs.declared.start.Start.{Start}
