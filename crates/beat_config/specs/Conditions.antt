@@ -1,5 +1,5 @@
 -- A condition: a table with exactly one key, nested at most 16 deep (Filebeat reference, conditions; the depth is this
--- project's profile). Of two keys of conditions the later in byte order is unknown. A condition that stands deeper is out
+-- project's profile). Of two keys of conditions the later in byte order is unknown. A condition that is nested deeper is out
 -- of range, besides whatever else is wrong with it.
 use Rattle.std.specs.Global.{Box}
 use Rattle.std.specs.Prelude.{◌≡◌, ℕ, zero, suc, pos, nat_lt, List, [], ◌∷◌, ◌++◌, codes, Option, Some, None, find, is_some, if◌then◌else◌}
@@ -80,7 +80,7 @@ module _ (here : List ℕ → Data → List SettingsError) where
 abbrev pub most_levels : ℕ
 most_levels = 160
 
--- where fewer are left below a condition, it stands more than 16 deep
+-- if fewer are left below a condition, it is nested more than 16 deep
 abbrev pub levels_below_sixteen : ℕ
 levels_below_sixteen = 144
 

@@ -19,7 +19,7 @@ port_within port = if nat_le 1 port && nat_le port 65535 then Some port else Non
 abbrev pub port_of : List ℕ → Option ℕ
 port_of digits = option_and_then port_within (number_of 5 digits)
 
--- the port behind a name; 58 is the colon
+-- the port after a name; 58 is the colon
 abbrev pub port_behind : List ℕ → Option ℕ
 port_behind [] = Some 5044
 port_behind (colon ∷ digits) = port_of digits
@@ -28,7 +28,7 @@ abbrev pub named_host : List ℕ → Option ℕ → Option Host
 named_host name None = None
 named_host name (Some port) = if is_name 253 name then Some (record { name = name; port = port }) else None
 
--- how many bytes stand before the first colon
+-- how many bytes come before the first colon
 abbrev pub name_length : List ℕ → ℕ
 name_length text = prefix_len (λ byte. not (byte == 58)) text
 

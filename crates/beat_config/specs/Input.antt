@@ -60,7 +60,7 @@ identity_findings path members =
     let inner = key_path path (codes "fingerprint") in
     table_at_findings inner (codes "offset" ∷ codes "length" ∷ []) [] found ++ identity_value_findings path inner members (members_at found)
 
--- the id of a table, which is empty where there is none
+-- the id of a table, which is empty if there is none
 unfoldable pub id_in : Members → List ℕ
 id_in members = unwrap_or (text_of (get_member (codes "id") members)) []
 
@@ -108,7 +108,7 @@ input_value_findings path members =
     ++ (texts_findings LinePattern (limits 0 64) (key_path path (codes "exclude_lines")) (get_member (codes "exclude_lines") members)
     ++ group_findings (key_path path (codes "multiline")) (get_member (codes "multiline") members)))))))))
 
--- an input behind inputs of these ids
+-- an input after inputs of these ids
 unfoldable pub input_findings : List ℕ → List (List ℕ) → Data → List SettingsError
 input_findings path ids value =
     table_findings path input_keys (codes "id" ∷ codes "paths" ∷ []) value
@@ -119,7 +119,7 @@ abbrev pub inputs_in : Items → List InputRule
 inputs_in no_items = []
 inputs_in (item value items) = input_in (members_of value) ∷ inputs_in items
 
--- inputs of which the first has this number, behind inputs of these ids
+-- inputs of which the first has this number, after inputs of these ids
 abbrev pub inputs_item_findings : List ℕ → ℕ → List (List ℕ) → Items → List SettingsError
 inputs_item_findings key number ids no_items = []
 inputs_item_findings key number ids (item value items) =

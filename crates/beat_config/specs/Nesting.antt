@@ -1,4 +1,4 @@
--- How deep a document nests, told of its bytes before they are read as TOML: each open bracket is a level, and so is each
+-- How deep a document nests, found from its bytes before they are read as TOML: each open bracket is a level, and so is each
 -- dot of a key (this project's profile; texts and comments by the grammar of TOML 1.0).
 use Rattle.std.specs.Prelude.{◌≡◌, ℕ, ◌+◌, zero, suc, Bool, false, ◌==◌, ◌&&◌, ◌||◌, nat_lt, List, [], ◌∷◌, length, sum, slice_index, if◌then◌else◌}
 use Rattle.beat_config.specs.declared.nesting.Quote.{Quote}
@@ -30,7 +30,7 @@ abbrev pub after_in_block : Quote → ℕ → Place
 after_in_block Basic byte = if byte == 92 then BlockEscape else Block Basic 0
 after_in_block Literal byte = Block Literal 0
 
--- a byte behind so many quotes in a row within a text of many lines: three end it, and so do four and five, of which the
+-- a byte after this many quotes in a row within a text of many lines: three end it, and so do four and five, of which the
 -- first ones belong to the text
 abbrev pub after_quotes : Quote → ℕ → ℕ → Place
 after_quotes quote quotes byte =
@@ -112,7 +112,7 @@ goes_too_deep place nesting (byte ∷ bytes) =
 abbrev pub nests_too_deep : List ℕ → Bool
 nests_too_deep bytes = goes_too_deep Plain no_levels bytes
 
--- the first so many numbers, the last of them first
+-- this many of the first numbers, the last of them first
 abbrev pub last_first : ℕ → List ℕ → List ℕ
 last_first zero numbers = []
 last_first (suc count) numbers = slice_index numbers count ∷ last_first count numbers

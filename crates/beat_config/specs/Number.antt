@@ -8,6 +8,6 @@ abbrev pub is_number : List ℕ → Bool
 is_number digits =
     nat_lt 0 (length digits) && (list_all is_ascii_digit digits && (not (slice_index digits 0 == 48) || length digits == 1))
 
--- the number of at most so many digits
+-- the number of at most this many digits
 abbrev pub number_of : ℕ → List ℕ → Option ℕ
 number_of most digits = if nat_le (length digits) most && is_number digits then Some (digits_value 10 digits) else None

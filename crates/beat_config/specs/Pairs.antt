@@ -15,7 +15,7 @@ use Rattle.beat_config.specs.Path.{key_path}
 use Rattle.beat_config.specs.Table.{members_of, table_findings}
 use Rattle.beat_config.specs.Text.{text_findings, value_findings}
 
--- a value that can stand in `equals`: a text, a whole number or a truth value
+-- a value that can be in `equals`: a text, a whole number or a truth value
 abbrev pub scalar_of : Data → Option TreeValue
 scalar_of (string text) = Some (str text)
 scalar_of (integer number) = Some (int number)

@@ -1,4 +1,4 @@
--- Where a key or a member of a list stands in a document: parts between dots, with numbers from 0 for the members of
+-- Where a key or a member of a list is in a document: parts between dots, with numbers from 0 for the members of
 -- lists (this project's profile).
 use Rattle.std.specs.Prelude.{ℕ, List, [], ◌∷◌, ◌++◌, decimal}
 

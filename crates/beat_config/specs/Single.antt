@@ -1,4 +1,4 @@
--- A value that stands alone at a key: the value that it gives, which is the default where the key is absent or its value
+-- A value that is by itself at a key: the value that it gives, which is the default if the key is absent or its value
 -- has a fault, and its fault (this project's profile).
 use Rattle.std.specs.Prelude.{ℕ, ℤ, pos, negsuc, ◌&&◌, nat_le, Bool, List, [], ◌∷◌, Option, Some, None, if◌then◌else◌, is_some, unwrap_or, option_and_then}
 use Rattle.std.specs.List.{position_from}

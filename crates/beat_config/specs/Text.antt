@@ -1,4 +1,4 @@
--- A text that stands at a key, and a list of texts: the texts, and what is wrong with them (this project's profile; globs
+-- A text at a key, and a list of texts: the texts, and what is wrong with them (this project's profile; globs
 -- by the rules of `glob_paths`, patterns by those of the regular expressions).
 use Rattle.std.specs.Prelude.{ℕ, ◌+◌, suc, pos, List, [], ◌∷◌, ◌++◌, Option, Some, None, if◌then◌else◌, is_none, option_and_then}
 use Rattle.std.specs.List.{cons_option}
@@ -46,7 +46,7 @@ found_findings form key (Some text) = text_findings form key text
 abbrev pub value_findings : Form → List ℕ → Data → List SettingsError
 value_findings form key value = found_findings form key (as_str value)
 
--- the text at a key, where there is one
+-- the text at a key, if there is one
 abbrev pub text_of : Option Data → Option (List ℕ)
 text_of found = option_and_then as_str found
 
@@ -77,7 +77,7 @@ abbrev pub list_texts : Option Items → List (List ℕ)
 list_texts None = []
 list_texts (Some items) = texts_in items
 
--- the texts of the list at a key, of so many members
+-- the texts of the list at a key, of this many members
 abbrev pub texts_of : Option Data → List (List ℕ)
 texts_of found = list_texts (option_and_then as_array found)
 

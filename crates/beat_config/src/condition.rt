@@ -51,10 +51,10 @@ const KINDS: [ConditionKind; 8] = [
 /// The levels that a document can have: at most 80 by a header, and at most 80 below it.
 pub(crate) const MOST_LEVELS: usize = 160;
 
-/// How deep a condition may stand.
+/// How deep a condition may be nested.
 const MOST_CONDITIONS: usize = 16;
 
-/// What is told of one that stands deeper.
+/// The fault of one that is nested deeper.
 const TOO_DEEP: i64 = 17;
 
 impl ConditionKind {
@@ -252,7 +252,7 @@ impl Noted {
         Ok(rules)
     }
 
-    /// Notes a condition that stands too deep, with so many levels left below it.
+    /// Notes a condition that is nested too deep, with this many levels left below it.
     #[tactic(auto, unfolding(crate::specs::Finding::note_all, crate::specs::Conditions::deep_findings))]
     fn check_depth(&mut self, key: &Text, levels: usize) -> Result<(), NoMemory>
         ensures { OnOk result (seen_of self.new ≡ note_all (seen_of self.old) (deep_findings levels key.now)) }

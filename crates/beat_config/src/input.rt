@@ -114,7 +114,7 @@ impl Noted {
         Ok(rules)
     }
 
-    /// One input, behind others.
+    /// One input, after others.
     #[tactic(auto, unfolding(crate::specs::Finding::note_all, crate::specs::Input::input_findings))]
     fn input(
         &mut self,

@@ -1,9 +1,9 @@
 //! The settings: one TOML document, read whole.
 //!
 //! What a document says is a definition of `specs/`: each key with its default, range and form. What is wrong with it is a
-//! list of faults, made key by key, and the fault that is told is the first of them by kind and key. The code walks the
-//! document once: `Noted` reads value after value, gives the default where one has a fault, and keeps the first fault that
-//! it found; the settings are handed out only where it found none. So every function here says two things of its part of
+//! list of faults, made key by key, and the fault that is reported is the first of them by kind and key. The code walks the
+//! document once: `Noted` reads value after value, gives the default if one has a fault, and keeps the first fault that
+//! it found; the settings are handed out only if it found none. So every function here says two things of its part of
 //! the document: which value it gives, and which faults it noted.
 #![tactic(auto)]
 

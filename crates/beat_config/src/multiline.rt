@@ -50,7 +50,7 @@ const TIMEOUT: Limits = Limits {
 };
 
 impl Noted {
-    /// How lines become events: the table `multiline`, where it is there.
+    /// How lines become events: the table `multiline`, if it is there.
     #[tactic(auto, unfolding(crate::specs::Finding::note_all, crate::specs::Multiline::group_of, crate::specs::Multiline::group_findings))]
     pub fn group(
         &mut self,

@@ -1,4 +1,4 @@
-//! How deep a document nests, told of its bytes before TOML is read, since the reader of TOML recurses as deep.
+//! How deep a document nests, found from its bytes before TOML is read, since the reader of TOML recurses as deep.
 ghost use Rattle.std.specs.Prelude.{◌≡◌, ◌≤◌};
 ghost use Rattle.beat_config.specs.Nesting.{quote_byte, after_plain, after_in_line, after_in_block, after_quotes, place_after, no_levels, after_opening, after_closing, after_dot, after_comma, after_line_feed, after_mark, nesting_after, nests_too_deep, nesting_of, IsCounted};
 
@@ -18,14 +18,14 @@ enum Place {
     /// Outside of texts and comments.
     Plain,
     Comment,
-    /// Behind the quote that opens a text.
+    /// After the quote that opens a text.
     Opened(Quote),
-    /// Behind two: the text is empty, or a third one opens a text of many lines.
+    /// After two: the text is empty, or a third one opens a text of many lines.
     OpenedTwice(Quote),
     /// In a text of one line.
     Line(Quote),
     LineEscape,
-    /// In a text of many lines, behind so many of its quotes in a row.
+    /// In a text of many lines, after this many of its quotes in a row.
     Block(Quote, usize),
     BlockEscape,
 }

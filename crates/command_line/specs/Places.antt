@@ -11,7 +11,7 @@ defaults = record {
   generate = None;
 }
 
--- what the arguments ask for, or the defaults where the command refuses them
+-- what the arguments ask for, or the defaults if the command refuses them
 abbrev pub IsAskedOrDefault : List (List ℕ) → Words → Type 0
 IsAskedOrDefault words asked = IsCommand words asked ⊎ (IsNoCommand words × (asked ≡ defaults))
 
@@ -19,7 +19,7 @@ abbrev pub IsSettingsPlace : List (List ℕ) → List ℕ → Type 0
 IsSettingsPlace words place =
     (asked : Words) × IsAskedOrDefault words asked × (place ≡ asked.settings)
 
--- a file of the data folder, by its name with the slash in front
+-- a file of the data folder, by its name with the slash before it
 abbrev pub IsInData : List (List ℕ) → List ℕ → List ℕ → Type 0
 IsInData words name place =
     (asked : Words) × IsAskedOrDefault words asked × (place ≡ asked.«data» ++ name)

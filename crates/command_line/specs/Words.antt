@@ -18,7 +18,7 @@ use Rattle.wire_base.specs.Decimal.{value_of}
 abbrev pub source_of : List ℕ → List Row → Option ValueSource
 source_of id rows = option_and_then (λ row. row.source) (find (λ row. bytes_eq row.id id) rows)
 
--- the number that is asked for by the value of `--generate`, where there is one
+-- the number that is asked for by the value of `--generate`, if there is one
 abbrev pub IsGenerateBy : Option (List ℕ) → Option ℕ → Type 0
 IsGenerateBy None asked = asked ≡ None
 IsGenerateBy (Some digits) asked = IsLineCount digits × (asked ≡ Some (value_of digits))

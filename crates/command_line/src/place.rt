@@ -8,7 +8,7 @@ use std::alloc::Global;
 use wire_base::{NoMemory, Text};
 
 /// The places that the arguments name: the settings file, and in the data folder the areas `registry.a` and
-/// `registry.b` and the file `stop`. Where the command refuses the arguments, `beat.toml`, the folder `data` and no
+/// `registry.b` and the file `stop`. If the command refuses the arguments, `beat.toml`, the folder `data` and no
 /// generator.
 pub fn places(alloc: Global, words: &[Text]) -> Result<Places, NoMemory>
     ensures settings_named_or_default { IfOk result (λ places. IsSettingsPlace words.now places.settings) }

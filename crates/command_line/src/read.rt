@@ -11,7 +11,7 @@ use clap::parser::ValueSource;
 use std::alloc::Global;
 use wire_base::{NoMemory, Text};
 
-/// What the arguments ask for; `None` exactly where the command refuses them. The program's name is none of them.
+/// What the arguments ask for; `None` exactly if the command refuses them. The program's name is none of them.
 /// An `Err` means out of memory.
 pub fn read_words(alloc: Global, words: &[Text]) -> Result<Option<Words>, NoMemory>
     ensures asked_exactly_where_taken { IfOk result (λ found.

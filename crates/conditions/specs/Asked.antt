@@ -1,5 +1,5 @@
--- What a condition asks of the value at a path (Filebeat reference, conditions). Where nothing stands at the path, or
--- a part of it stands in something that is no map, no question is answered with yes.
+-- What a condition asks of the value at a path (Filebeat reference, conditions). If nothing is at the path, or
+-- a part of it is in something that is no map, no question is answered with yes.
 use Rattle.std.specs.Prelude.{ℕ, ℤ, Bool, true, false, ◌&&◌, bytes_eq, int_le, int_lt, List, Option, Some, None}
 use Rattle.std.specs.Bool.{beq}
 use Rattle.std.specs.List.{list_any}
@@ -20,7 +20,7 @@ passes test (Some value) = test value
 abbrev pub is_at : List ℕ → (TreeValue → Bool) → TreeValue → Bool
 is_at path test tree = passes test (get_at (parts_of path) tree)
 
--- something stands there
+-- something is there
 abbrev pub is_there : TreeValue → Bool
 is_there value = true
 

@@ -1,5 +1,5 @@
--- A text within a text (Filebeat reference, conditions, `contains`): its bytes stand somewhere in the other's, one
--- behind the other.
+-- A text within a text (Filebeat reference, conditions, `contains`): its bytes are somewhere in the other's, one
+-- after the other.
 use Rattle.std.specs.Prelude.{ℕ, Bool, ◌||◌, bytes_eq, List, [], ◌∷◌, length, take}
 
 abbrev pub is_within : List ℕ → List ℕ → Bool

@@ -77,8 +77,8 @@ impl Compiled {
     }
 }
 
-/// The compiled patterns of a condition. They stand apart from its levels, so that a search may keep the states that it
-/// met while the levels are only read.
+/// The compiled patterns of a condition. They are kept apart from its levels, so that a search may keep the states that it
+/// reached while the levels are only read.
 #[derive(Drop)]
 pub(crate) struct Patterns {
     compiled: Vec<Compiled>,

@@ -11,7 +11,7 @@ use event_tree::{ConditionRule, Tree};
 use std::alloc::Global;
 use wire_base::NoMemory;
 
-/// How many conditions stand within one another at most (this project's profile).
+/// How many conditions are nested within one another at most (this project's profile).
 const MOST_LEVELS: usize = 16;
 
 /// A rule of the settings with its paths read and its patterns compiled (Filebeat reference, conditions).
@@ -22,7 +22,7 @@ pub struct Condition {
 }
 
 impl Condition {
-    /// Reads the rule's paths and compiles its patterns. A pattern that is too large when it is compiled is told as
+    /// Reads the rule's paths and compiles its patterns. A pattern that is too large when it is compiled is reported as
     /// out of memory.
     pub fn new(alloc: Global, rule: &ConditionRule) -> Result<Condition, NoMemory>
         requires { IsConditionInRange 16 rule.now }
@@ -33,7 +33,7 @@ impl Condition {
         Ok(Condition { node, patterns })
     }
 
-    /// Whether the rule holds of the tree. Memory is wanted only by a pattern that has met too many states.
+    /// Whether the rule holds of the tree. Memory is wanted only by a pattern that has reached too many states.
     pub fn holds(&mut self, alloc: Global, tree: &Tree) -> Result<bool, NoMemory>
         ensures truth { IfOk result (λ truth. (rule : ConditionRule) → Asks rule self.old →
             truth ≡ holds rule (value_of tree.now)) }

@@ -28,7 +28,7 @@ pub(crate) enum Test {
 }
 
 impl FieldTest {
-    /// Whether a value stands at the path and passes.
+    /// Whether there is a value at the path and it passes.
     pub fn passes(
         &self,
         alloc: Global,

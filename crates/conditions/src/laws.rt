@@ -12,7 +12,7 @@ ghost use Rattle.conditions.specs.Asked.{is_at};
 ghost use Rattle.conditions.specs.Holds.{holds};
 ghost use Rattle.conditions.specs.Within.{is_within};
 
-/// `and` holds where each of its conditions does, `or` where some does, and `not` where its condition does not. A
+/// `and` holds if each of its conditions does, `or` if some does, and `not` if its condition does not. A
 /// law; it computes nothing.
 pub fn joined_conditions()
     ensures all { (rules : ConditionRules) (tree : TreeValue) →
@@ -23,7 +23,7 @@ pub fn joined_conditions()
         holds (Not inner) tree ≡ not (holds inner.value tree) }
 {}
 
-/// A question at a path is asked of the value there, and is not answered with yes where there is none. A law; it
+/// A question at a path is asked of the value there, and is not answered with yes if there is none. A law; it
 /// computes nothing.
 pub fn questions_at_paths()
     ensures there { (path : List ℕ) (test : TreeValue → Bool) (tree value : TreeValue) →
@@ -32,7 +32,7 @@ pub fn questions_at_paths()
         get_at (parts_of path) tree ≡ None → is_at path test tree ≡ false }
 {}
 
-/// A text stands within another exactly where that one is some bytes, the text, and some bytes. A law; it computes
+/// A text is within another exactly if that one is some bytes, the text, and some bytes. A law; it computes
 /// nothing.
 pub fn text_within_text()
     ensures stands { (text bytes : List ℕ) → is_within text bytes ≡ true →

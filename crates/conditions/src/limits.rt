@@ -6,7 +6,7 @@ ghost use Rattle.conditions.specs.Tests.{are_kept, limits_of, value_passes};
 use crate::field_test::Test;
 use event_tree::{Bounds, Tree};
 
-/// The bounds of a whole number, each where it is given.
+/// The bounds of a whole number, each if it is given.
 #[derive(Clone, Copy)]
 pub(crate) struct Limits {
     pub lt: Option<i64>,

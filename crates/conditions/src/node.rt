@@ -25,7 +25,7 @@ pub(crate) enum Node {
 }
 
 impl Node {
-    /// The rule with its paths read. Its patterns are compiled and added to the others. So many levels bound the
+    /// The rule with its paths read. Its patterns are compiled and added to the others. This many levels bound the
     /// recursion.
     #[cycle(made)]
     pub fn of(

@@ -13,7 +13,7 @@ hexadecimal_digit n = if nat_lt n 10 then 48 + n else 87 + n
 abbrev pub short_escape : ℕ → List ℕ
 short_escape letter = 0x5C ∷ letter ∷ []
 
--- what stands in a text for the byte
+-- what is in a text for the byte
 unfoldable pub escape : ℕ → List ℕ
 escape byte =
     if byte == 0x22 then short_escape 0x22
@@ -29,7 +29,7 @@ escape byte =
 abbrev pub quoted : List ℕ → List ℕ
 quoted text = 0x22 ∷ (flat_map escape text ++ 0x22 ∷ [])
 
--- the text of a value, and those of what stands between the commas of a list or a map
+-- the text of a value, and those of what is between the commas of a list or a map
 abbrev mutual
   pub json_of : TreeValue → List ℕ
   json_of null = codes "null"

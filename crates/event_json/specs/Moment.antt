@@ -35,7 +35,7 @@ pub record Date : Type 0 where
   pub month : ℕ
   pub day : ℕ
 
--- the date so many days after 1970-01-01, up to the year 9999
+-- the date this many days after 1970-01-01, up to the year 9999
 unfoldable pub date_of : ℕ → Date
 date_of days =
     let year = year_at 8030 1970 days in
@@ -60,6 +60,6 @@ date_text date = four_digits date.year ++ (codes "-" ++ (two_digits date.month +
 abbrev pub time_text : ℕ → List ℕ
 time_text ms = two_digits (ms / 3_600_000) ++ (codes ":" ++ (two_digits (ms / 60_000 % 60) ++ (codes ":" ++ (two_digits (ms / 1_000 % 60) ++ (codes "." ++ three_digits (ms % 1_000))))))
 
--- the moment so many milliseconds after 1970-01-01T00:00:00.000Z
+-- the moment this many milliseconds after 1970-01-01T00:00:00.000Z
 unfoldable pub moment_text : ℕ → List ℕ
 moment_text ms = date_text (date_of (ms / 86_400_000)) ++ (codes "T" ++ (time_text (ms % 86_400_000) ++ codes "Z"))

@@ -1,4 +1,4 @@
--- The payload of a value is its JSON text, where that is not too long for one (this project's profile).
+-- The payload of a value is its JSON text, if that is not too long for one (this project's profile).
 use Rattle.std.specs.Prelude.{ℕ, nat_le, if◌then◌else◌, List, length, Option, Some, None}
 use Rattle.wire_base.specs.declared.parcel.TheConstants.{MAX_PAYLOAD}
 use Rattle.event_tree.specs.Value.{TreeValue}

@@ -1,6 +1,6 @@
--- Bytes as text (the Unicode Standard: table 3-7 and the replacement of maximal subparts). At each place, where the
+-- Bytes as text (the Unicode Standard: table 3-7 and the replacement of maximal subparts). At each place, if the
 -- bytes begin a well-formed character, it is taken; else the longest front that some character begins with, or one byte
--- where there is none, is replaced by U+FFFD.
+-- if there is none, is replaced by U+FFFD.
 use Rattle.std.specs.Prelude.{ℕ, zero, suc, Bool, true, ◌&&◌, ◌==◌, nat_lt, nat_le, if◌then◌else◌, List, [], ◌∷◌, ◌++◌, length, take, drop}
 
 -- the bytes from the first up to the second, both included
@@ -14,7 +14,7 @@ lies_in range byte = nat_le range.0 byte && nat_le byte range.1
 abbrev pub later : Range
 later = (0x80, 0xBF)
 
--- the byte behind the first one; after four first bytes the table allows fewer
+-- the byte after the first one; after four first bytes the table allows fewer
 abbrev pub second : ℕ → Range
 second first =
     if first == 0xE0 then (0xA0, 0xBF)
@@ -51,11 +51,11 @@ is_character first rest = is_first first && (fitting (behind first) rest == leng
 abbrev pub replacement : List ℕ
 replacement = 0xEF ∷ 0xBF ∷ 0xBD ∷ []
 
--- what stands in the text for the bytes in front
+-- what is in the text for the bytes before it
 abbrev pub piece : ℕ → List ℕ → List ℕ
 piece first rest = if is_character first rest then take (piece_length first rest) (first ∷ rest) else replacement
 
--- the text of at most so many pieces
+-- the text of at most this many pieces
 abbrev pub text_within : ℕ → List ℕ → List ℕ
 text_within zero bytes = []
 text_within (suc pieces) [] = []

@@ -19,7 +19,7 @@ use wire_base::{Blob, MAX_PAYLOAD, Moment, NoMemory, Text};
 /// asks for beside.
 const ENVELOPE_BYTES: usize = 160;
 
-/// The compact JSON text of the tree (RFC 8259); `None` exactly where it is longer than
+/// The compact JSON text of the tree (RFC 8259); `None` exactly if it is longer than
 /// `MAX_PAYLOAD` bytes.
 pub fn payload(alloc: Global, tree: &Tree) -> Result<Option<Blob>, NoMemory>
     ensures of_tree { IfOk result (λ payload. payload ≡ payload_of_value (value_of tree.now)) }
@@ -68,7 +68,7 @@ pub fn event_payload_at(
     }
 }
 
-/// The payload of an event whose message is this text, in one buffer that is large enough where nothing is escaped.
+/// The payload of an event whose message is this text, in one buffer that is large enough if nothing is escaped.
 fn event_text(
     alloc: Global,
     path: &Text,

@@ -51,7 +51,7 @@ impl Stamp {
         }
     }
 
-    /// The stamp is of this moment; its text is made anew where it was of another one.
+    /// The stamp is of this moment; its text is made anew if it was of another one.
     pub fn set(&mut self, moment: Moment)
         requires { IsMoment moment }
         ensures { self.new ≡ moment.0 }

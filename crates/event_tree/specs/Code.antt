@@ -1,4 +1,4 @@
--- A code for plain values, by which a proof tells them apart: a tree of numbers that gives the value back
+-- A code for plain values, by which a proof distinguishes them: a tree of numbers that gives the value back
 -- (this project's profile).
 use Rattle.std.specs.Prelude.{◌≡◌, ℕ, zero, suc, ℤ, pos, negsuc, Bool, true, false, List, [], ◌∷◌, refl}
 use Rattle.std.specs.Coded.{Coded, code_by, coded_list, coded×, coded_ℕ}

@@ -11,7 +11,7 @@ key_of pair = pair.0
 abbrev pub find : List ℕ → FieldList → Option TreeValue
 find key pairs = option_map (λ (pair : List ℕ × TreeValue). pair.1) (find_entry key_of key pairs)
 
--- the pairs with the value at the key: in place of an earlier one, or where the key belongs
+-- the pairs with the value at the key: in place of an earlier one, or at the place to which the key belongs
 abbrev pub set_field : List ℕ → TreeValue → FieldList → FieldList
 set_field key value pairs = with_entry key_of (key, value) pairs
 

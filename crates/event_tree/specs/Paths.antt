@@ -1,4 +1,4 @@
--- What stands at a field path of a tree, and the tree after a value is put there or taken away
+-- What is at a field path of a tree, and the tree after a value is put there or taken away
 -- (Filebeat reference, processors; this project's profile). A path is the list of its parts.
 use Rattle.std.specs.Prelude.{◌≡◌, ℕ, suc, List, [], ◌∷◌, Option, Some, None, option_map, option_and_then, unwrap_or}
 use Rattle.std.specs.Option.{option_map_or}
@@ -22,7 +22,7 @@ fields_in (fields ms) = Some (pairs_in ms)
 abbrev pub map_of : FieldList → TreeValue
 map_of ps = fields (as_members ps)
 
--- the value of one key, where the holder is a map that has it
+-- the value of one key, if the holder is a map that has it
 abbrev pub member_at : List ℕ → TreeValue → Option TreeValue
 member_at key v = option_and_then (find key) (fields_in v)
 
@@ -60,13 +60,13 @@ with_fields f (fields ms) = map_of (f (pairs_in ms))
 abbrev pub with_member : List ℕ → (TreeValue → TreeValue) → FieldList → FieldList
 with_member key f ps = option_map_or (λ v. set_field key (f v) ps) (find key ps) ps
 
--- the tree without what stands at the path; a holder stays, though it may be empty then
+-- the tree without what is at the path; a holder stays, though it may be empty then
 abbrev pub remove_at : Parts → TreeValue → TreeValue
 remove_at [] v = v
 remove_at (part ∷ []) v = with_fields (unset_field part) v
 remove_at (part ∷ next ∷ parts) v = with_fields (with_member part (remove_at (next ∷ parts))) v
 
--- the tree with what stands at one path taken away and put at another
+-- the tree with what is at one path taken away and put at another
 abbrev pub rename_at : Parts → Parts → TreeValue → TreeValue
 rename_at from to v = option_map_or (λ moved. put_at to moved (remove_at from v)) (get_at from v) v
 

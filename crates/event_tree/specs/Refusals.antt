@@ -12,7 +12,7 @@ abbrev pub IsPutRefusal : Parts → TreeValue → PutError → Type 0
 IsPutRefusal path tree (put.NotObject part) = blocked_at path tree ≡ Some part
 IsPutRefusal path tree put.NoMemory = Unit {0}
 
--- nothing stands at `from`; else something stands at `to`; else a part of `to` has a holder that is no map
+-- nothing is at `from`; else something is at `to`; else a part of `to` has a holder that is no map
 abbrev pub IsRenameRefusal : Parts → Parts → TreeValue → RenameError → Type 0
 IsRenameRefusal from to tree rename.Absent = IsNone (get_at from tree)
 IsRenameRefusal from to tree rename.Present = IsSome (get_at from tree) × IsSome (get_at to tree)

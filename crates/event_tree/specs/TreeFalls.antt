@@ -31,7 +31,7 @@ trees_most : (ts : List Tree) → most (λ t. deep-Tree t) ts ≤ trees_size (va
 trees_most [] = omega arith
 trees_most (t ∷ ts) = omega (arith, deep_le_size t, trees_most ts)
 
--- as the logic counts a pair: each of its parts, and nothing behind them
+-- as the logic counts a pair: each of its parts, and nothing after them
 abbrev entry_size : List ℕ × Tree → ℕ
 entry_size p = max 0 (max (deep-Tree p.1) 0)
 

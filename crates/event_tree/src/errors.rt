@@ -25,10 +25,10 @@ pub enum PutError {
 /// Why nothing was renamed.
 #[derive(Clone, Copy, Debug, PartialEq, Eq, Error)]
 pub enum RenameError {
-    /// Nothing stands at the path that was to be renamed.
+    /// Nothing is at the path that was to be renamed.
     #[error("the field is absent")]
     Absent,
-    /// Something stands at the new path.
+    /// Something is at the new path.
     #[error("the new field is present")]
     Present,
     /// The holder of the new path's part of this number, counted from 0, is no map.

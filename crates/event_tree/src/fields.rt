@@ -123,7 +123,7 @@ impl Fields {
         }
     }
 
-    /// Takes out what stands below the key and the later parts.
+    /// Takes out what is below the key and the later parts.
     #[cycle(take)]
     pub(crate) fn take_below(&mut self, key: &Text, later: &[Text]) -> Option<Tree>
         ensures taken { option_map value_of result ≡ get_at (key.now ∷ later.now) (map_of self.old) }
@@ -154,7 +154,7 @@ impl Fields {
     }
 }
 
-/// Where the key stands, or where it belongs.
+/// Where the key is, or where it belongs.
 fn place(entries: &[(Text, Tree)], key: &Text) -> Result<usize, usize>
     requires { IsInOrder key_of (pairs_of entries.now) }
     ensures found { IfOk result (IsAt key_of (pairs_of entries.now) key.now) }

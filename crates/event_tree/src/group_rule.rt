@@ -5,7 +5,7 @@ use wire_base::Text;
 pub enum Side {
     /// To the line before it.
     After,
-    /// To the line behind it.
+    /// To the line after it.
     Before,
 }
 
@@ -26,7 +26,7 @@ pub enum GroupRule {
         skip_newline: bool,
         message_max_bytes: u64,
     },
-    /// A line continues where it matches `pattern`, or, with `negate`, where it does not.
+    /// A line continues if it matches `pattern`, or, with `negate`, if it does not.
     Pattern {
         pattern: Text,
         negate: bool,

@@ -22,7 +22,7 @@ pub struct InputRule {
     /// skips none.
     pub ignore_older: u64,
     /// The row of a file that has not changed for this long, 0 to 31,536,000,000 milliseconds, goes; 0
-    /// keeps each. Where it is not 0, it is above `ignore_older` and `check_interval` together.
+    /// keeps each. If it is not 0, it is above `ignore_older` and `check_interval` together.
     pub clean_inactive: u64,
     pub lines: LineRule,
     /// At most 64 patterns, of which an event must match one, if there are any.

@@ -2,10 +2,10 @@
 //!
 //! An event is a `Tree`: contracts see it as one plain value, a list of trees as the list of their
 //! values, and the fields of a map as pairs of a key and a value, in byte order of the keys and each
-//! key once. What stands at a field path, and the tree after a value is put there, taken away or
-//! moved, are definitions of `specs/`; each call is told equal to its definition, with its refusals
-//! exactly where they hold, and every other path as before. The settings are data without rules of
-//! their own: their ranges and forms are told where they are read. Nothing here reads settings or
+//! key once. What is at a field path, and the tree after a value is put there, taken away or
+//! moved, are definitions of `specs/`; each call is proved equal to its definition, with its refusals
+//! exactly when they hold, and every other path as before. The settings are data without rules of
+//! their own: their ranges and forms are stated where they are read. Nothing here reads settings or
 //! writes an event.
 #![tactic(auto)]
 

@@ -10,7 +10,7 @@ pub struct Pair {
 
 pub type Pairs = ListOf<Pair>;
 
-/// What one processor does to an event (Filebeat reference, processors). Each but `DropEvent` runs on every event where it has no
+/// What one processor does to an event (Filebeat reference, processors). Each but `DropEvent` runs on every event if it has no
 /// condition.
 #[derive(Debug, Drop)]
 pub enum ProcessorRule {

@@ -20,7 +20,7 @@ pub enum Tree {
 }
 
 impl Tree {
-    /// `None` exactly where a part is absent or stands in something that is no map.
+    /// `None` exactly if a part is absent or is in something that is no map.
     pub fn get(&self, path: &FieldPath) -> Option<&Tree>
         ensures { option_map (λ tree. value_of tree.now) result ≡ get_at path.now (value_of self.now) }
     {
@@ -34,7 +34,7 @@ impl Tree {
         Some(here)
     }
 
-    /// Puts the value at the path, in place of what stands there, and makes the maps on the way that
+    /// Puts the value at the path, in place of what is there, and makes the maps on the way that
     /// are missing. A refusal leaves the tree as it was; the value is gone then.
     pub fn put(&mut self, alloc: Global, path: &FieldPath, value: Tree) -> Result<(), PutError>
         ensures put { OnOk result (value_of self.new ≡ put_at path.now (value_of value) (value_of self.old)) }
@@ -75,8 +75,8 @@ impl Tree {
         }
     }
 
-    /// Takes what stands at the path out of the tree; a holder that is empty then stays. `None`
-    /// exactly where `get` is.
+    /// Takes what is at the path out of the tree; a holder that is empty then stays. `None`
+    /// exactly if `get` is.
     pub fn remove(&mut self, path: &FieldPath) -> Option<Tree>
         ensures taken { option_map value_of result ≡ get_at path.now (value_of self.old) }
         ensures left { value_of self.new ≡ remove_at path.now (value_of self.old) }
@@ -87,7 +87,7 @@ impl Tree {
         self.take_parts(path.parts())
     }
 
-    /// Takes out what stands at the parts.
+    /// Takes out what is at the parts.
     #[cycle(take)]
     pub(crate) fn take_parts(&mut self, parts: &[Text]) -> Option<Tree>
         requires { 0 < length parts.now }
@@ -104,9 +104,9 @@ impl Tree {
         }
     }
 
-    /// Moves what stands at one path to another. The three refusals are of the tree as it stands
+    /// Moves what is at one path to another. The three refusals are of the tree as it is
     /// before, the first that holds in the order in which they are listed; each leaves the tree as it
-    /// was. The tree is copied, so that it stays where memory is out, too.
+    /// was. The tree is copied, so that it stays when out of memory, too.
     pub fn rename(
         &mut self,
         alloc: Global,

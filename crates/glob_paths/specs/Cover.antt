@@ -36,7 +36,7 @@ PartsCover (named tokens ∷ parts) (name ∷ names) = Matches tokens (chars nam
 abbrev pub Covers : List ℕ → List ℕ → Type 0
 Covers text path = IsUtf8 path × (slice_get path 0 ≡ Some 47) × PartsCover (meaning text) (parts_of path)
 
--- the parts of a path from some slash on; where it has ended there are none
+-- the parts of a path from some slash on; if it has ended there are none
 abbrev pub parts_left : Option (List ℕ) → List (List ℕ)
 parts_left None = []
 parts_left (Some path) = parts_of path

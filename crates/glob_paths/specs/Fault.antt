@@ -27,7 +27,7 @@ abbrev pub are_bad_items : List (ℕ × ℕ) → Bool
 are_bad_items [] = true
 are_bad_items (item ∷ items) = some_backwards (item ∷ items)
 
--- the fault of a class whose `[` is at this place, by the signs behind it
+-- the fault of a class whose `[` is at this place, by the signs after it
 abbrev pub class_fault : ℕ → List Sign → Option GlobError
 class_fault at signs = if not (is_closed signs) then Some (Unclosed at) else (if are_bad_items (items_of (after_caret signs)) then Some (BadRange at) else None)
 
@@ -35,11 +35,11 @@ abbrev pub starts_with_star : List Sign → Bool
 starts_with_star [] = false
 starts_with_star (sign ∷ signs) = is 42 sign
 
--- the fault of a sign outside a class, at its place, by the signs behind it; a backslash is a sign only at the end
+-- the fault of a sign outside a class, at its place, by the signs after it; a backslash is a sign only at the end
 abbrev pub sign_fault : ℕ → Sign → List Sign → Option GlobError
 sign_fault at sign signs = if is 91 sign then class_fault at signs else (if is 92 sign then Some (Unclosed at) else (if is 42 sign && starts_with_star signs then Some (StarStar at) else None))
 
--- a class is open behind the sign
+-- a class is open after the sign
 abbrev pub opens : Bool → Sign → Bool
 opens true sign = not (is 93 sign)
 opens false sign = is 91 sign
@@ -53,7 +53,7 @@ signs_fault inside at (sign ∷ signs) = or_else (if inside then None else sign_
 abbrev pub is_no_name : List ℕ → Bool
 is_no_name text = bytes_eq text [] || (bytes_eq text (46 ∷ []) || bytes_eq text (46 ∷ 46 ∷ []))
 
--- the first fault of a part that begins at this place, where a `**` stood before it or not
+-- the first fault of a part that begins at this place, whether a `**` came before it or not
 abbrev pub part_fault : Bool → ℕ → List ℕ → Option GlobError
 part_fault seen at text = if is_no_name text then Some (BadPart at) else (if is_deep text then (if seen then Some (StarStar at) else None) else signs_fault false at (signs text))
 

@@ -6,7 +6,7 @@ use Rattle.glob_paths.specs.declared.part.Lead.TheVariants.{No, Whole, Star}
 use Rattle.glob_paths.specs.Match.{Matches}
 use Rattle.glob_paths.specs.Token.{Token, any_run, tokens}
 
--- the first tokens match their codes where the second match theirs, and a `*` in front of both keeps that
+-- the first tokens match their codes if the second match theirs, and a `*` before both keeps that
 pub record Comes (first : List Token) (codes : List ℕ) (second : List Token) (rest : List ℕ) : Type 0 where
   pub same : Matches first codes ↔ Matches second rest
   pub later : Matches (any_run ∷ first) codes → Matches (any_run ∷ second) rest

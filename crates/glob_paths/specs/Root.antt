@@ -22,7 +22,7 @@ other_parts [] = []
 other_parts (part ∷ []) = part ∷ []
 other_parts (part ∷ next ∷ parts) = if is_plain part then other_parts (next ∷ parts) else part ∷ next ∷ parts
 
--- a slash in front of each part
+-- a slash before each part
 abbrev pub slashed : List (List ℕ) → List ℕ
 slashed [] = []
 slashed (part ∷ parts) = 47 ∷ part ++ slashed parts
@@ -40,7 +40,7 @@ abbrev pub depth_of_parts : List (List ℕ) → ℕ
 depth_of_parts [] = 0
 depth_of_parts (part ∷ parts) = depth_of_part part + depth_of_parts parts
 
--- the parts behind the first slash of a text that begins with it
+-- the parts after the first slash of a text that begins with it
 abbrev pub behind_slash : List ℕ → List (List ℕ)
 behind_slash [] = []
 behind_slash (byte ∷ text) = parts_of text
@@ -49,7 +49,7 @@ behind_slash (byte ∷ text) = parts_of text
 abbrev pub root_of : List ℕ → List ℕ
 root_of text = or_slash (slashed (leading_parts (behind_slash text)))
 
--- how many parts behind its root a path has at most that the glob covers
+-- how many parts after its root a path has at most that the glob covers
 abbrev pub depth_of : List ℕ → ℕ
 depth_of text = depth_of_parts (other_parts (behind_slash text))
 
@@ -59,6 +59,6 @@ pub record IsWithin (root : List ℕ) (depth : ℕ) (path : List ℕ) : Type 0 w
   pub spelled : parts_of path ≡ folder_parts root ++ behind
   pub few : length behind ≤ depth
 
--- no part behind the first slash is empty
+-- no part after the first slash is empty
 abbrev pub HasNames : List ℕ → Type 0
 HasNames path = All (λ part. part ≢ []) (drop 1 (parts_of path))

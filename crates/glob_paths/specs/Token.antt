@@ -1,5 +1,5 @@
 -- What the signs of a part of a glob ask of a name (Filebeat reference, filestream paths; classes are this project's
--- profile): a run of characters, one character, a character of a class, or a character as it stands.
+-- profile): a run of characters, one character, a character of a class, or a character as it is.
 use Rattle.std.specs.Prelude.{ℕ, Bool, true, false, not, ◌&&◌, ◌||◌, ◌==◌, nat_le, List, [], ◌∷◌, if◌then◌else◌}
 use Rattle.glob_paths.specs.declared.sign.Sign.{Sign}
 use Rattle.glob_paths.specs.Sign.{is, signs}
@@ -11,7 +11,7 @@ pub data Token : Type 0 where
   any_run : Token
   -- `?`
   any_one : Token
-  -- a character as it stands
+  -- a character as it is
   exactly : ℕ → Token
   -- `[..]`, or `[^..]` with true: its items, each the first and the last character of a range
   class : Bool → List (ℕ × ℕ) → Token
@@ -26,7 +26,7 @@ items_of (low ∷ dash ∷ high ∷ signs) = if is 93 low then [] else (if is 45
     then (low.code, high.code) ∷ items_of signs
     else (low.code, low.code) ∷ items_of (dash ∷ high ∷ signs))
 
--- the class that begins behind a `[`
+-- the class that begins after a `[`
 abbrev pub is_negated : List Sign → Bool
 is_negated [] = false
 is_negated (sign ∷ signs) = is 94 sign
@@ -38,7 +38,7 @@ after_caret (sign ∷ signs) = if is 94 sign then signs else sign ∷ signs
 abbrev pub class_of : List Sign → Token
 class_of signs = class (is_negated signs) (items_of (after_caret signs))
 
--- what a sign outside a class begins, with the signs behind it
+-- what a sign outside a class begins, with the signs after it
 abbrev pub token_at : Sign → List Sign → Token
 token_at sign signs = if is 42 sign then any_run else (if is 63 sign then any_one else (if is 91 sign then class_of signs else exactly sign.code))
 

@@ -5,7 +5,7 @@ ghost use Rattle.glob_paths.specs.Token.{items_of, tokens, tokens_of, token_at, 
 
 use crate::sign::{Sign, first_sign};
 
-/// What stands behind the token that `sign` and `rest` begin, if that token takes the character.
+/// What follows the token that `sign` and `rest` begin, if that token takes the character.
 #[tactic(auto, unfolding(crate::specs::Token::tokens))]
 pub fn token_after<'a>(sign: Sign, rest: &'a str, code: char) -> Option<&'a str>
     requires { is 42 sign ≡ false }
@@ -26,7 +26,7 @@ pub fn token_after<'a>(sign: Sign, rest: &'a str, code: char) -> Option<&'a str>
     if taken { Some(rest) } else { None }
 }
 
-/// What stands behind the class that begins at `body`, behind its `[`, if it takes the character.
+/// What follows the class that begins at `body`, after its `[`, if it takes the character.
 fn class_after(body: &str, code: char) -> Option<&str>
     ensures taken { MatchOption result
         (takes (class_of (signs body.now)) code ≡ false)
@@ -76,7 +76,7 @@ fn items_have(items: &str, code: char) -> (bool, &str)
     (found, rest)
 }
 
-/// What stands behind a class whose items have ended.
+/// What follows a class whose items have ended.
 fn behind_class(rest: &str) -> &str
     requires { items_of (signs rest.now) ≡ [] }
     ensures behind { tokens_of true (signs rest.now) ≡ tokens result.now }
@@ -88,7 +88,7 @@ fn behind_class(rest: &str) -> &str
     }
 }
 
-/// The first item of a class: the first and the last character of its range, and the text behind.
+/// The first item of a class: the first and the last character of its range, and the text after it.
 pub fn first_item(text: &str) -> Option<(char, char, &str)>
     ensures cases { MatchOption result
         (items_of (signs text.now) ≡ [])
@@ -110,7 +110,7 @@ pub fn first_item(text: &str) -> Option<(char, char, &str)>
     }
 }
 
-/// The last character of a range whose first character stands in front of `text`.
+/// The last character of a range whose first character is directly before `text`.
 fn range_end(text: &str) -> Option<(char, &str)>
     ensures cases { (low : Sign) → is 93 low ≡ false → MatchOption result
         (items_of (low ∷ signs text.now) ≡ (low.code, low.code) ∷ items_of (signs text.now))

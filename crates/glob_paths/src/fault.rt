@@ -9,7 +9,7 @@ use crate::class::{behind_caret, first_item};
 use crate::parts::first_part;
 use crate::sign::{Sign, first_sign};
 
-/// The parts behind the first slash of a text without a fault, or its first fault.
+/// The parts after the first slash of a text without a fault, or its first fault.
 pub fn faultless_parts(text: &str) -> Result<&str, GlobError>
     ensures ok { IfOk result (λ parts. text.now ≡ 47 ∷ parts.now) }
     ensures faultless { IfOk result (λ _. fault_of text.now ≡ None) }
@@ -49,7 +49,7 @@ fn first_fault(text: &str, start: usize) -> Option<GlobError>
     }
 }
 
-/// The first fault of a part at the place `at`; `seen`: a `**` stood before it.
+/// The first fault of a part at the place `at`; `seen`: a `**` came before it.
 fn fault_of_part(part: &str, at: usize, seen: bool) -> Option<GlobError>
     requires { at + length part.now < 2 ^ 64 }
     ensures { result ≡ part_fault seen at part.now }
@@ -94,14 +94,14 @@ fn fault_of_signs(part: &str, start: usize) -> Option<GlobError>
     None
 }
 
-/// Whether a class is open behind the sign.
+/// Whether a class is open after the sign.
 fn goes_inside(inside: bool, sign: Sign) -> bool
     ensures { result ≡ opens inside sign }
 {
     if inside { !sign.is(']') } else { sign.is('[') }
 }
 
-/// The fault of a sign outside a class, by the text behind it.
+/// The fault of a sign outside a class, by the text after it.
 fn fault_of_sign(sign: Sign, rest: &str, at: usize) -> Option<GlobError>
     ensures { result ≡ sign_fault at sign (signs rest.now) }
 {
@@ -126,7 +126,7 @@ fn begins_with_star(text: &str) -> bool
     }
 }
 
-/// The fault of a class whose `[` is at the place `at`, by the text behind it.
+/// The fault of a class whose `[` is at the place `at`, by the text after it.
 fn fault_of_class(body: &str, at: usize) -> Option<GlobError>
     ensures { result ≡ class_fault at (signs body.now) }
 {

@@ -55,9 +55,9 @@ impl Glob {
     }
 
     /// Takes no memory, and time of the order of the lengths of the glob and the path multiplied; of
-    /// a path that does not begin with the root it looks at that front alone.
+    /// a path that does not begin with the root it looks only at that front.
     ///
-    /// A path that it covers lies below the root within the depth, if it has no empty part behind
+    /// A path that it covers lies below the root within the depth, if it has no empty part after
     /// its first slash, which a `*` matches too, and is not the root, which a `**` at the end covers.
     pub fn covers(&self, path: &[u8]) -> bool
         ensures covers { IsTrue result ↔ Covers self.now path.now }
@@ -73,7 +73,7 @@ impl Glob {
     }
 
     /// The folder to list: the longest row of leading parts without `*`, `?`, `[` and backslash,
-    /// never the last, and `/` where there is none.
+    /// never the last, and `/` if there is none.
     pub fn root(&self) -> &Text
         ensures { result.now ≡ root_of self.now }
     {

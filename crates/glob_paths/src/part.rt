@@ -13,7 +13,7 @@ pub enum Lead<'a> {
     No,
     /// There is no `*`, and they match all of it.
     Whole,
-    /// They match its front: what stands behind the `*`, and the rest of the name.
+    /// They match its front: what follows the `*`, and the rest of the name.
     Star(&'a str, &'a str),
 }
 

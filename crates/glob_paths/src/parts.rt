@@ -1,7 +1,7 @@
 ghost use Rattle.std.specs.Prelude.{◌≡◌, ◌+◌, ◌<◌, ◌≤◌, ◌∷◌, [], length, Option, Some, None, MatchOption, IfSome};
 ghost use Rattle.wire_base.specs.Path.{parts_of};
 
-/// The part in front of the first slash, and what stands behind that slash, if there is one.
+/// The part before the first slash, and what follows that slash, if there is one.
 pub fn first_part(text: &str) -> (&str, Option<&str>)
     ensures cases { MatchOption result.1
         (parts_of text.now ≡ result.0.now ∷ [])

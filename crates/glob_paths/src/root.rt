@@ -28,7 +28,7 @@ pub fn leading_folder(alloc: Global, text: &str) -> Result<(String, &str), Alloc
     }
 }
 
-/// The folder itself, or `/` where it has no part.
+/// The folder itself, or `/` if it has no part.
 pub fn root_text(folder: String) -> Result<Text, AllocError>
     ensures { IfOk result (λ root. root ≡ or_slash (string_bytes folder)) }
 {

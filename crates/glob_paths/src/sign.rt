@@ -3,7 +3,7 @@ ghost use Rattle.std.specs.Char.{len_utf8};
 ghost use Rattle.std.specs.Str.{chars};
 ghost use Rattle.glob_paths.specs.Sign.{signs, signs_of, is, width};
 
-/// A character of a glob, and whether it stands there without a backslash before it.
+/// A character of a glob, and whether it has no backslash before it.
 #[derive(Clone, Copy)]
 pub struct Sign {
     pub code: char,
@@ -19,7 +19,7 @@ impl Sign {
     }
 }
 
-/// The first character, and the text behind it.
+/// The first character, and the text after it.
 pub fn first_char(text: &str) -> Option<(char, &str)>
     ensures none_at_the_end { IfNone result (text.now ≡ []) }
     ensures cases { MatchOption result (chars text.now ≡ []) (λ first. chars text.now ≡ first.0 ∷ chars first.1.now) }
@@ -33,7 +33,7 @@ pub fn first_char(text: &str) -> Option<(char, &str)>
     }
 }
 
-/// The first sign, and the text behind it.
+/// The first sign, and the text after it.
 pub fn first_sign(text: &str) -> Option<(Sign, &str)>
     ensures none_at_the_end { IfNone result (text.now ≡ []) }
     ensures cases { MatchOption result (signs text.now ≡ []) (λ first. signs text.now ≡ first.0 ∷ signs first.1.now) }
@@ -49,7 +49,7 @@ pub fn first_sign(text: &str) -> Option<(Sign, &str)>
     Some((Sign { code, bare: true }, rest))
 }
 
-/// The sign that a backslash begins, and the text behind it.
+/// The sign that a backslash begins, and the text after it.
 fn after_backslash(rest: &str) -> (Sign, &str)
     ensures value { signs_of (92 ∷ chars rest.now) ≡ result.0 ∷ signs result.1.now }
     ensures places { 1 + length rest.now ≡ width result.0 + length result.1.now }

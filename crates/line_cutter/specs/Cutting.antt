@@ -14,14 +14,14 @@ pub record Cutting : Type 0 where
   pub head : List ℕ
   pub passed : ℕ
   pub after_return : Bool
-  -- the bytes behind them
+  -- the bytes after them
   pub unread : List ℕ
 
--- the place behind the last byte that was fed
+-- the place after the last byte that was fed
 abbrev pub fed_to : Cutting → ℕ
 fed_to cutter = cutter.start + cutter.passed + length cutter.unread
 
--- these are the bytes that were passed of the line that is not complete; no terminator stands in them
+-- these are the bytes that were passed of the line that is not complete; no terminator is in them
 pub record HasPassed (cutter : Cutting) (bytes : List ℕ) : Type 0 where
   pub none : (place : ℕ) → ¬ (StandsAt (terminator_of cutter.rule.terminator) bytes place)
   pub head : cutter.head ≡ take cutter.rule.message_max_bytes bytes

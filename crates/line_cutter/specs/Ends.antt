@@ -30,7 +30,7 @@ full_to cutter at =
     if leaves_return cutter.rule.terminator && return_before cutter.after_return cutter.unread at then cutter.passed + at - 1
     else cutter.passed + at
 
--- the head of what was passed, and of these bytes behind it
+-- the head of what was passed, and of these bytes after it
 abbrev pub head_with : Cutting → List ℕ → List ℕ
 head_with cutter bytes = cutter.head ++ take (cutter.rule.message_max_bytes - length cutter.head) bytes
 

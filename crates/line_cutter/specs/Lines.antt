@@ -1,5 +1,5 @@
 -- The complete lines of bytes from a place on (Filebeat reference, filestream input, `line_terminator` and
--- `message_max_bytes`): a line's content is what stands before its terminator, with `auto` without one carriage return
+-- `message_max_bytes`): a line's content is what is before its terminator, with `auto` without one carriage return
 -- at its end; its head is the first `message_max_bytes` bytes of the content.
 use Rattle.std.specs.Prelude.{ℕ, ◌+◌, ◌-◌, ◌≤◌, ◌==◌, Bool, List, [], ◌∷◌, length, take, slice_index, if◌then◌else◌}
 use Rattle.event_tree.specs.declared.line_rule.LineRule.{LineRule}
@@ -27,7 +27,7 @@ content_of LineFeed body = body
 content_of CarriageReturnLineFeed body = body
 content_of NullTerminator body = body
 
--- the place behind the terminator of a line that begins at this place
+-- the place after the terminator of a line that begins at this place
 abbrev pub end_of : LineRule → ℕ → List ℕ → ℕ
 end_of rule start body = start + length body + length (terminator_of rule.terminator)
 
@@ -46,6 +46,6 @@ lines_in rule start (line body behind) = line_at rule start body ∷ lines_in ru
 abbrev pub complete_lines : LineRule → ℕ → List ℕ → List Line
 complete_lines rule start bytes = lines_in rule start (cut (terminator_of rule.terminator) bytes)
 
--- the bytes behind the last complete line
+-- the bytes after the last complete line
 abbrev pub unended : LineRule → List ℕ → List ℕ
 unended rule bytes = rest_in (cut (terminator_of rule.terminator) bytes)

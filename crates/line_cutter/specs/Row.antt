@@ -1,4 +1,4 @@
--- Lines one behind the other (this project's profile).
+-- Lines one after another (this project's profile).
 use Rattle.std.specs.Prelude.{◌≡◌, ℕ, ◌<◌, List, [], ◌∷◌}
 use Rattle.line_cutter.specs.declared.line.Line.{Line}
 

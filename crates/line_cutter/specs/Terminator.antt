@@ -10,6 +10,6 @@ terminator_of LineFeed = 10 ∷ []
 terminator_of CarriageReturnLineFeed = 13 ∷ 10 ∷ []
 terminator_of NullTerminator = 0 ∷ []
 
--- the bytes of the terminator stand in these bytes from the place on
+-- the bytes of the terminator are in these bytes from the place on
 abbrev pub StandsAt : List ℕ → List ℕ → ℕ → Type 0
 StandsAt terminator bytes place = take (length terminator) (drop place bytes) ≡ terminator

@@ -73,7 +73,7 @@ impl Cutter {
         }
     }
 
-    /// Takes a piece, of any length, that stands behind all that was fed before.
+    /// Takes a piece, of any length, that follows all that was fed before.
     pub fn feed(&mut self, piece: &[u8]) -> Result<(), NoMemory>
         requires { IsPlace (fed_to self.old + length piece.now) }
         ensures fed { OnOk result ((rule : LineRule) (start : ℕ) (fed : List ℕ) (given : List Line) →
@@ -85,7 +85,7 @@ impl Cutter {
         Ok(())
     }
 
-    /// Hands out the next complete line of all that was fed, or none where there is no other yet.
+    /// Hands out the next complete line of all that was fed, or none if there is no other yet.
     pub fn next_line(&mut self) -> Result<Option<Line>, NoMemory>
         ensures handed_out { IfOk result (λ found. (rule : LineRule) (start : ℕ) (fed : List ℕ) (given : List Line) →
             HasCut rule start fed given self.old → HasCut rule start fed (given ++ option_to_list found) self.new) }
@@ -175,7 +175,7 @@ impl Cutter {
     }
 }
 
-/// Puts so many of the bytes behind the head that it has at most `most`.
+/// Puts as many of the bytes after the head as leave it no longer than `most`.
 fn extend_head(head: &mut Vec<u8>, most: usize, bytes: &[u8]) -> Result<(), NoMemory>
     requires { length head.old.items ≤ most }
     ensures longer { OnOk result (head.new.items ≡ head.old.items ++ take (most - length head.old.items) bytes.now) }

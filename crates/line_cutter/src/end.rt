@@ -6,7 +6,7 @@ use event_tree::Terminator;
 use memchr::memchr;
 
 /// The place of the byte that ends the first terminator; `after_return` says that a carriage return of the same line
-/// stands before the bytes.
+/// comes before the bytes.
 pub fn line_end(terminator: Terminator, bytes: &[u8], after_return: bool) -> Option<usize>
     ensures { IsFirst (λ place. is_end terminator after_return bytes.now place ≡ true) 0 (length bytes.now) result }
 {

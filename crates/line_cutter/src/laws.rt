@@ -7,8 +7,8 @@ ghost use Rattle.line_cutter.specs.Lines.{complete_lines};
 ghost use Rattle.line_cutter.specs.Row.{AreAdjoining};
 ghost use Rattle.line_cutter.specs.Terminator.{StandsAt, terminator_of};
 
-/// A line ends behind the first terminator that begins at or behind its first byte, and what follows is cut in the same
-/// way; where none stands no line ends. A law; it computes nothing.
+/// A line ends after the first terminator that begins at or after its first byte, and what follows is cut in the same
+/// way; if there is none, no line ends. A law; it computes nothing.
 pub fn first_terminator_ends_a_line()
     ensures first { (terminator : Terminator) (bytes : List ℕ) (place : ℕ) →
         StandsAt (terminator_of terminator) bytes place →
@@ -31,7 +31,7 @@ pub fn lines_adjoin()
     ensures { (rule : LineRule) (start : ℕ) (bytes : List ℕ) → AreAdjoining start (complete_lines rule start bytes) }
 {}
 
-/// The lines behind one line of bytes are those of the bytes behind it. A law; it computes nothing.
+/// The lines after one line of bytes are those of the bytes after it. A law; it computes nothing.
 pub fn later_lines()
     ensures { (rule : LineRule) (start : ℕ) (bytes : List ℕ) (given : List Line) (line : Line) (more : List Line) →
         complete_lines rule start bytes ≡ given ++ line ∷ more →

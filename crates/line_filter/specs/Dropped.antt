@@ -3,7 +3,7 @@ use Rattle.std.specs.Prelude.{ℕ, Option, Some, None}
 use Rattle.line_filter.specs.declared.verdict.Verdict.{Verdict}
 use Rattle.line_filter.specs.declared.verdict.Verdict.TheVariants.{Keep, Drop}
 
--- its number, where the message is dropped
+-- its number, if the message is dropped
 abbrev pub dropped_by : Verdict → Option ℕ
 dropped_by Keep = None
 dropped_by (Drop rule) = Some rule.0

@@ -14,8 +14,8 @@ abbrev pub is_not_included : List (List ℕ) → List ℕ → Bool
 is_not_included [] message = false
 is_not_included (pattern ∷ patterns) message = not (is_matched (pattern ∷ patterns) message)
 
--- the number of the rule that drops the message: 0 where it has no byte; else 1 where there are patterns to include and
--- none of them matches; else 2 where some pattern to exclude matches. None where it is kept
+-- the number of the rule that drops the message: 0 if it has no byte; else 1 if there are patterns to include and
+-- none of them matches; else 2 if some pattern to exclude matches. None if it is kept
 unfoldable pub verdict_of : List (List ℕ) → List (List ℕ) → List ℕ → Option ℕ
 verdict_of include exclude [] = Some 0
 verdict_of include exclude (byte ∷ bytes) =

@@ -35,7 +35,7 @@ impl Model for Filter {
 }
 
 impl Filter {
-    /// Compiles each pattern. One that is too large when it is compiled is told as out of memory.
+    /// Compiles each pattern. One that is too large when it is compiled is reported as out of memory.
     pub fn new(alloc: Global, include: &[Text], exclude: &[Text]) -> Result<Filter, NoMemory>
         requires include_patterns { All IsLinePattern include.now }
         requires exclude_patterns { All IsLinePattern exclude.now }

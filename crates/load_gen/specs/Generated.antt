@@ -9,7 +9,7 @@ line_text number = elim (nat_eq (number % 3) 0) [
   | false ↦ codes " " ++ decimal number ++ codes "\n"
 ]
 
--- so many lines, from the first on
+-- this many lines, from the first on
 abbrev pub generated_text : ℕ → List ℕ
 generated_text zero = []
 generated_text (suc count) = generated_text count ++ line_text count

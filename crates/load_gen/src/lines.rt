@@ -5,7 +5,7 @@ use itoa::Buffer;
 use std::alloc::Global;
 use wire_base::{Blob, NoMemory};
 
-/// So many of the lines that an event has.
+/// This many of the lines that an event has.
 const LINES_PER_EVENT: u32 = 3;
 
 /// A log of `count` lines, in bytes. Line i, from 0, is `[i]` and a line feed if i is a multiple of 3, which begins an

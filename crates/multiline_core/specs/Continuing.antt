@@ -1,5 +1,5 @@
 -- Whether a line continues an event, and whether it ends one (Filebeat reference, multiline: `pattern`, `negate`,
--- `flush_pattern`): patterns see the head of a line; where one matches is turned round by `negate`.
+-- `flush_pattern`): patterns see the head of a line; whether one matches is turned round by `negate`.
 use Rattle.std.specs.Prelude.{◌≡◌, ℕ, Bool, true, false, not, List, Option, Some, None, if◌then◌else◌}
 use Rattle.std.specs.List.{AllByRecursion}
 use Rattle.line_cutter.specs.declared.line.Line.{Line}

@@ -8,7 +8,7 @@ use Rattle.event_tree.specs.declared.group_rule.Side.TheVariants.{After, Before}
 use Rattle.line_cutter.specs.declared.line.Line.{Line}
 use Rattle.multiline_core.specs.Continuing.{continues, flushes, AllContinue}
 
--- after: all lines but the first continue, and the line behind them is complete, and neither continues nor flushes
+-- after: all lines but the first continue, and the line after them is complete, and neither continues nor flushes
 pub record IsEndedByNext (pattern : List ℕ) (negate : Bool) (flush : Option (List ℕ)) (row behind : List Line) : Type 0 where
   pub first : Line
   pub others : List Line
@@ -43,7 +43,7 @@ abbrev pub IsEndedByLine : List ℕ → Bool → Side → Option (List ℕ) → 
 IsEndedByLine pattern negate After flush row behind = IsEndedByNext pattern negate flush row behind
 IsEndedByLine pattern negate Before flush row behind = IsEndedByLast pattern negate row
 
--- the lines of the row, with these lines behind them, are an event
+-- the lines of the row, with these lines after them, are an event
 abbrev pub IsEvent : GroupRule → List Line → List Line → Type 0
 IsEvent (Single message_max_bytes) row behind = length row ≡ 1
 IsEvent (Count count_lines max_lines timeout skip_newline message_max_bytes) row behind = length row ≡ count_lines

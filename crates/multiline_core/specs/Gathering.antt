@@ -50,7 +50,7 @@ BeginEvent pattern negate Before flush (first ∷ others) =
     (continues pattern negate first ≡ true) × AllGoOn pattern negate flush others
 
 -- an event may have these lines and go on: without a rule there are none, by count they are too few, and by pattern each
--- goes on, the first one with `before` alone
+-- goes on, the first one only with `before`
 abbrev pub MayGoOn : GroupRule → List Line → Type 0
 MayGoOn (Single message_max_bytes) row = row ≡ []
 MayGoOn (Count count_lines max_lines timeout skip_newline message_max_bytes) row = length row < count_lines

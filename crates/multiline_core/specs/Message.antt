@@ -36,12 +36,12 @@ joined skip_newline (first ∷ others) = first ++ flat_map (λ other. separator 
 abbrev pub message_of : GroupRule → List Line → List ℕ
 message_of rule row = take (limit_of rule) (joined (skips_newline rule) (map (λ line. line.head) (take (max_lines_of rule) row)))
 
--- the place of the first line, or this place where there is none
+-- the place of the first line, or this place if there is none
 abbrev pub row_start : ℕ → List Line → ℕ
 row_start place [] = place
 row_start place (first ∷ others) = first.span.start
 
--- the place behind the last line, or this place where there is none
+-- the place after the last line, or this place if there is none
 abbrev pub row_end : ℕ → List Line → ℕ
 row_end place [] = place
 row_end place (first ∷ others) = row_end first.span.end others

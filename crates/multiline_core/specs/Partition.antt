@@ -1,6 +1,6 @@
 -- The events of a file's bytes from a place on (Filebeat reference, multiline messages; `close.reader.on_eof` and
 -- `multiline.timeout` for those that are flushed): spans that adjoin, of which each is an event by rule, or is flushed
--- where it may be.
+-- if it may be.
 use Rattle.std.specs.Prelude.{◌≡◌, ◌⊎◌, ℕ, ◌<◌, List, [], ◌∷◌, drop}
 use Rattle.wire_base.specs.Extent.{Extent}
 use Rattle.event_tree.specs.declared.group_rule.GroupRule.{GroupRule}

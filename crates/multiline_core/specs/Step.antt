@@ -16,7 +16,7 @@ use Rattle.multiline_core.specs.Message.{limit_of, max_lines_of, skips_newline, 
 abbrev pub count_step : ℕ → ℕ → Step
 count_step waiting count_lines = if waiting + 1 == count_lines then Last else Join
 
--- what a line that does not flush does to an event that waits with so many lines
+-- what a line that does not flush does to an event that waits with this many lines
 abbrev pub unflushed_step : ℕ → Bool → Side → Step
 unflushed_step waiting goes_on After = if waiting == 0 then Join else (if goes_on then Join else Next)
 unflushed_step waiting goes_on Before = if goes_on then Join else Last
@@ -27,14 +27,14 @@ pattern_step pattern negate side flush waiting line =
     if not (waiting == 0) && flushes flush line then Last
     else unflushed_step waiting (continues pattern negate line) side
 
--- what the line does to an event that waits with so many lines, 0 where none waits
+-- what the line does to an event that waits with this many lines, 0 if none waits
 abbrev pub step_of : GroupRule → ℕ → Line → Step
 step_of (Single message_max_bytes) waiting line = Last
 step_of (Count count_lines max_lines timeout skip_newline message_max_bytes) waiting line = count_step waiting count_lines
 step_of (Pattern pattern negate side flush max_lines timeout skip_newline message_max_bytes) waiting line =
     pattern_step pattern negate side flush waiting line
 
--- what is kept of an event's first line, where a message has at most so many bytes
+-- what is kept of an event's first line, if a message has at most this many bytes
 abbrev pub first_gathered : ℕ → Line → Moment → Gathered
 first_gathered most line now = record {
   start = line.span.start;
@@ -44,7 +44,7 @@ first_gathered most line now = record {
   read_at = now;
 }
 
--- the message with one more head, where it is one of the heads that are kept
+-- the message with one more head, if it is one of the heads that are kept
 abbrev pub longer_message : ℕ → ℕ → Bool → Gathered → List ℕ → List ℕ
 longer_message max_lines most skip_newline gathered head =
     if nat_lt gathered.lines max_lines then take most (gathered.message ++ (separator skip_newline ++ head)) else gathered.message

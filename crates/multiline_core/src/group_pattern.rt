@@ -22,7 +22,7 @@ impl Model for GroupPattern {
 }
 
 impl GroupPattern {
-    /// Compiles the pattern. One that is too large when it is compiled is told as out of memory.
+    /// Compiles the pattern. One that is too large when it is compiled is reported as out of memory.
     pub(crate) fn new(alloc: Global, text: &Text) -> Result<GroupPattern, NoMemory>
         requires { IsLinePattern text.now }
         ensures { IfOk result (λ pattern. pattern ≡ text.now) }

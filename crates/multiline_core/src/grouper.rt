@@ -45,7 +45,7 @@ impl Model for Grouper {
 impl Grouper {
     ghost use Rattle.multiline_core.specs.Gathering.{Grouping};
 
-    /// Compiles the rule's patterns. One that is too large when it is compiled is told as out of memory.
+    /// Compiles the rule's patterns. One that is too large when it is compiled is reported as out of memory.
     pub fn new(alloc: Global, rule: &GroupRule) -> Result<Grouper, NoMemory>
         requires { IsGroupRule rule.now }
         ensures gathers { IfOk result (λ grouper. (at : Moment) → Gathers rule.now [] at grouper) }

@@ -59,7 +59,7 @@ impl Kind {
         }
     }
 
-    /// What the line does to an event that waits with so many lines, 0 where none waits.
+    /// What the line does to an event that waits with this many lines, 0 if none waits.
     pub fn step(&mut self, alloc: Global, waiting: u64, line: &Line) -> Result<Step, NoMemory>
         ensures step { IfOk result (λ step. step ≡ kind_step self.old waiting line.now) }
         ensures same { self.new ≡ self.old }

@@ -36,7 +36,7 @@ impl Model for Pending {
 }
 
 impl Pending {
-    /// The event's first line; of its head at most so many bytes are kept. Takes no memory.
+    /// The event's first line; of its head at most this many bytes are kept. Takes no memory.
     pub fn first(line: Line, now: Moment, most: usize) -> Pending
         ensures { result ≡ first_gathered most line now }
     {
@@ -103,7 +103,7 @@ impl Pending {
     }
 }
 
-/// Joins one more head to the message, and cuts it to so many bytes.
+/// Joins one more head to the message, and cuts it to this many bytes.
 fn extend_message(
     message: &mut Vec<u8>,
     most: usize,
@@ -131,7 +131,7 @@ fn separator(skip_newline: bool) -> &'static [u8]
     if skip_newline { b"" } else { b"\n" }
 }
 
-/// Puts so many of the bytes behind the message that it has at most `most`.
+/// Puts as many of the bytes after the message as leave it no longer than `most`.
 fn extend_to(message: &mut Vec<u8>, most: usize, bytes: &[u8]) -> Result<(), NoMemory>
     requires { length message.old.items ≤ most }
     ensures longer { OnOk result (message.new.items ≡ message.old.items ++ take (most - length message.old.items) bytes.now) }

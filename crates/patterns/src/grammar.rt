@@ -35,7 +35,7 @@ pub(crate) fn text_config() -> Config
     Config::default()
 }
 
-/// What the grammar reads in the text, where it is a pattern.
+/// What the grammar reads in the text, if it is a pattern.
 pub(crate) fn read(alloc: Global, text: &str, config: &Config) -> Result<Option<Parsed>, NoMemory>
     ensures pattern { IfOk result (λ found. is_some found ≡ is_pattern config.now text.now) }
     ensures tree { IfOk result (λ found. IfSome found (λ parsed.

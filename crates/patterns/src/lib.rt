@@ -1,6 +1,6 @@
 //! What is a pattern, and what it matches.
 //!
-//! A text is a pattern where the grammar of Rust's crate `regex` reads it, nested no deeper than its limit.
+//! A text is a pattern if the grammar of Rust's crate `regex` reads it, nested no deeper than its limit.
 //! A pattern of lines is matched on bytes of any kind, one of texts on whole characters. Whether a text is
 //! one is a test that computes, in `specs/`, and a call; neither compiles anything. A compiled pattern is
 //! seen as its text, and what it matches is what the grammar reads in that text. Nothing here touches a file.

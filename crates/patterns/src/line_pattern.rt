@@ -8,7 +8,7 @@ use std::alloc::Global;
 use std::marker::Model;
 use wire_base::{NoMemory, Text};
 
-/// A compiled pattern of lines, seen as its text. It keeps the states that its searches have met, so that
+/// A compiled pattern of lines, seen as its text. It keeps the states that its searches have reached, so that
 /// one serves for many lines.
 pub struct LinePattern {
     text: Text,
@@ -29,7 +29,7 @@ impl Model for LinePattern {
 }
 
 impl LinePattern {
-    /// Compiles the pattern. One that is too large when it is compiled is told as out of memory.
+    /// Compiles the pattern. One that is too large when it is compiled is reported as out of memory.
     pub fn new(alloc: Global, text: &Text) -> Result<LinePattern, NoMemory>
         requires { IsLinePattern text.now }
         ensures { IfOk result (λ pattern. pattern ≡ text.now) }
@@ -39,7 +39,7 @@ impl LinePattern {
         Ok(LinePattern { text, matcher })
     }
 
-    /// Whether the pattern matches somewhere in the bytes. Memory is wanted only where there are too many
+    /// Whether the pattern matches somewhere in the bytes. Memory is wanted only if there are too many
     /// states to keep.
     pub fn matches(&mut self, alloc: Global, bytes: &[u8]) -> Result<bool, NoMemory>
         ensures found { IfOk result (λ found. found ≡ matches self.old bytes.now) }

@@ -17,7 +17,7 @@ use wire_base::NoMemory;
 /// The most bytes of a compiled pattern, as `regex` has it.
 const SIZE_LIMIT: usize = 10 << 20;
 
-/// A compiled pattern with the states that its searches have met. A matcher of `regex` borrows its pattern,
+/// A compiled pattern with the states that its searches have reached. A matcher of `regex` borrows its pattern,
 /// so that no value can own both; these parts of it do not.
 pub(crate) struct Matcher {
     program: Program,
@@ -26,7 +26,7 @@ pub(crate) struct Matcher {
 }
 
 impl Matcher {
-    /// Compiles a pattern. One that is too large for it is told as out of memory.
+    /// Compiles a pattern. One that is too large for it is reported as out of memory.
     pub fn new(alloc: Global, text: &str, config: &Config) -> Result<Matcher, NoMemory>
         requires { IsTrue (is_pattern config.now text.now) }
         ensures tree { IfOk result (λ m. IsReadAs config.now text.now (pattern_of m.program)) }
@@ -47,7 +47,7 @@ impl Matcher {
         Ok(Matcher { program, forward })
     }
 
-    /// Whether the tree is found somewhere in the bytes. Memory is wanted only where there are too many
+    /// Whether the tree is found somewhere in the bytes. Memory is wanted only if there are too many
     /// states to keep.
     pub fn finds(&mut self, alloc: Global, bytes: &[u8]) -> Result<bool, NoMemory>
         ensures found { IfOk result (λ found.
@@ -67,7 +67,7 @@ impl Matcher {
         }
     }
 
-    /// The same in a text. Memory is wanted, too, where the tree is found and may match no byte, and is not
+    /// The same in a text. Memory is wanted, too, if the tree is found and may match no byte, and is not
     /// known to match where the text begins.
     pub fn finds_in_text(&mut self, alloc: Global, text: &str) -> Result<bool, NoMemory>
         requires { MatchesText (pattern_of self.old.program) }

@@ -8,7 +8,7 @@ use std::alloc::Global;
 use std::marker::Model;
 use wire_base::{NoMemory, Text};
 
-/// A compiled pattern of texts, seen as its text. It keeps the states that its searches have met, so that
+/// A compiled pattern of texts, seen as its text. It keeps the states that its searches have reached, so that
 /// one serves for many texts.
 pub struct TextPattern {
     text: Text,
@@ -31,7 +31,7 @@ impl Model for TextPattern {
 }
 
 impl TextPattern {
-    /// Compiles the pattern. One that is too large when it is compiled is told as out of memory.
+    /// Compiles the pattern. One that is too large when it is compiled is reported as out of memory.
     pub fn new(alloc: Global, text: &Text) -> Result<TextPattern, NoMemory>
         requires { IsTextPattern text.now }
         ensures { IfOk result (λ pattern. pattern ≡ text.now) }
@@ -41,8 +41,8 @@ impl TextPattern {
         Ok(TextPattern { text, matcher })
     }
 
-    /// Whether the pattern matches somewhere in the text. Memory is wanted only where there are too many
-    /// states to keep, and where a match that may be empty, and so inside a character, is found behind the
+    /// Whether the pattern matches somewhere in the text. Memory is wanted only if there are too many
+    /// states to keep, and if a match that may be empty, and so inside a character, is found after the
     /// text's first byte.
     pub fn matches(&mut self, alloc: Global, text: &str) -> Result<bool, NoMemory>
         ensures found { IfOk result (λ found. found ≡ matches_text self.old text.now) }

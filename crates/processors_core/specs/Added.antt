@@ -1,5 +1,5 @@
 -- `add_fields` (Filebeat reference, processors; what is an error, and that a key with dots is one key, are this
--- project's profile): each key of the table is put under the target, or at the top where the target is the empty
+-- project's profile): each key of the table is put under the target, or at the top if the target is the empty
 -- text. Maps are merged key by key, and every other value is replaced. A target, or a part of it, that is there and
 -- is no map is an error.
 use Rattle.std.specs.Prelude.{ℕ, Bool, true, ◌&&◌, codes, List, [], ◌∷◌, ◌++◌, Option, Some, None, is_none, is_some, if◌then◌else◌}
@@ -9,7 +9,7 @@ use Rattle.event_tree.specs.Paths.{Parts, blocked_at, fields_in, get_at, map_of,
 use Rattle.event_tree.specs.Value.{TreeValue, fields, Members, no_members, member, FieldList, pairs_in}
 use Rattle.processors_core.specs.Attempt.{Attempt, Done, Failed}
 
--- a value over what stands at its place
+-- a value over what is at its place
 abbrev mutual
   pub merged : TreeValue → Option TreeValue → TreeValue
   merged (fields members) (Some (fields old)) = map_of (members_over members (pairs_in old))
@@ -32,12 +32,12 @@ abbrev pub target_parts : List ℕ → Parts
 target_parts [] = []
 target_parts (byte ∷ bytes) = parts_of (byte ∷ bytes)
 
--- nothing stands there, or a map does
+-- nothing is there, or a map is
 abbrev pub is_map_if_there : Option TreeValue → Bool
 is_map_if_there None = true
 is_map_if_there (Some value) = is_some (fields_in value)
 
--- no part before the end stands in something that is no map, and the end is a map if it is there
+-- no part before the end is in something that is no map, and the end is a map if it is there
 abbrev pub takes_fields : Parts → TreeValue → Bool
 takes_fields parts tree = is_none (blocked_at parts tree) && is_map_if_there (get_at parts tree)
 

@@ -12,7 +12,7 @@ abbrev pub and_then : Attempt → (TreeValue → Attempt) → Attempt
 and_then (Done tree) next = next tree
 and_then (Failed text) next = Failed text
 
--- the tree, or the error's text where there is one
+-- the tree, or the error's text if there is one
 abbrev pub attempt_of : Option (List ℕ) → TreeValue → Attempt
 attempt_of None tree = Done tree
 attempt_of (Some text) tree = Failed text

@@ -1,6 +1,6 @@
 -- What an error of a processor leaves (this project's profile): the tree as it was before that processor, with the
--- error's text at `error.message`. The first text is put there, and a later one follows the earlier behind `; `.
--- Where `error` is no map, or `error.message` is there and is no text, nothing is appended.
+-- error's text at `error.message`. The first text is put there, and a later one follows the earlier after `; `.
+-- If `error` is no map, or `error.message` is there and is no text, nothing is appended.
 use Rattle.std.specs.Prelude.{ℕ, codes, List, [], ◌∷◌, ◌++◌, Option, Some, None, is_none, if◌then◌else◌}
 use Rattle.event_tree.specs.Paths.{Parts, blocked_at, get_at, put_at}
 use Rattle.event_tree.specs.Value.{TreeValue, str}
@@ -9,7 +9,7 @@ use Rattle.processors_core.specs.Attempt.{Attempt, Done, Failed}
 abbrev pub error_path : Parts
 error_path = codes "error" ∷ codes "message" ∷ []
 
--- the texts so far and this one, where no other value stands there
+-- the texts so far and this one, if no other value is there
 abbrev pub with_text : List ℕ → Option TreeValue → Option TreeValue
 with_text text None = Some (str text)
 with_text text (Some (str earlier)) = Some (str (earlier ++ codes "; " ++ text))

@@ -1,4 +1,4 @@
--- What a fate tells: the tree that is left, or the rule that drops the event.
+-- What a fate says: the tree that is left, or the rule that drops the event.
 use Rattle.event_tree.specs.Tree.{value_of}
 use Rattle.processors_core.specs.Outcome.{Outcome, Dropped, Left}
 use Rattle.processors_core.specs.declared.fate.Fate.{Fate}

@@ -17,7 +17,7 @@ use Rattle.processors_core.specs.declared.processor.Action.{Action}
 use Rattle.processors_core.specs.declared.processor.Action.TheVariants as action
 use Rattle.processors_core.specs.declared.processor.Processor.{Processor}
 
--- ---- what is done where the condition holds
+-- ---- what is done if the condition holds
 
 abbrev pub acted : Action → TreeValue → Outcome
 acted (action.DropEvent number) tree = Dropped number.0

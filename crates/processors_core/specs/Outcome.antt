@@ -1,6 +1,6 @@
--- What processors make of an event's tree, one behind the other (Filebeat reference, processors): the first
+-- What processors make of an event's tree, one after another (Filebeat reference, processors): the first
 -- `drop_event` whose condition holds of the tree, as the processors before it left it, drops the event. Each other
--- processor runs where it has no condition, or where that holds.
+-- processor runs if it has no condition, or if that holds.
 use Rattle.std.specs.Prelude.{◌≡◌, ℕ, ◌+◌, Bool, true, List, [], ◌∷◌, ◌++◌, length, Option, Some, None, if◌then◌else◌}
 use Rattle.event_tree.specs.Value.{TreeValue}
 use Rattle.event_tree.specs.declared.condition_rule.ConditionRule.{ConditionRule}
@@ -26,7 +26,7 @@ runs_on (Some when) tree = holds when tree
 abbrev pub run_where : Option ConditionRule → Attempt → TreeValue → TreeValue
 run_where when attempt tree = if runs_on when tree then settled tree attempt else tree
 
--- the tree after one processor; none where it drops the event
+-- the tree after one processor; none if it drops the event
 unfoldable pub after_one : ProcessorRule → TreeValue → Option TreeValue
 after_one (DropEvent when) tree = if holds when tree then None else Some tree
 after_one (DropFields paths ignore_missing when) tree = Some (run_where when (fields_dropped ignore_missing paths tree) tree)

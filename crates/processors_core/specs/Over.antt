@@ -9,7 +9,7 @@ abbrev pub put_over : FieldList → FieldList → FieldList
 put_over [] old = old
 put_over (pair ∷ pairs) old = put_over pairs (set_field pair.0 (merged pair.1 (find pair.0 old)) old)
 
--- the fields of the map that stands there, none where nothing does
+-- the fields of the map that is there, none if nothing is
 abbrev pub map_at : Option TreeValue → Option FieldList
 map_at None = Some []
 map_at (Some value) = fields_in value

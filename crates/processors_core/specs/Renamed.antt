@@ -1,7 +1,7 @@
--- `rename` (Filebeat reference, processors; what is an error is this project's profile): what stands at one path is
--- moved to another, pair by pair in order. Of the tree as it stands before the pair: an absent first path is an
+-- `rename` (Filebeat reference, processors; what is an error is this project's profile): what is at one path is
+-- moved to another, pair by pair in order. Of the tree as it is before the pair: an absent first path is an
 -- error, unless missing ones are to be ignored; else a second path that is there is one; else a part of it in
--- something that is no map is one. Where errors are not to fail, such a pair alone is left out.
+-- something that is no map is one. If errors are not to fail, only such a pair is left out.
 use Rattle.std.specs.Prelude.{ℕ, Bool, true, false, ◌&&◌, codes, List, [], ◌∷◌, ◌++◌, Option, Some, None, is_none, is_some, if◌then◌else◌}
 use Rattle.event_tree.specs.Parts.{parts_of}
 use Rattle.event_tree.specs.Paths.{blocked_at, get_at, rename_at}

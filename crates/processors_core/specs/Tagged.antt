@@ -7,7 +7,7 @@ use Rattle.event_tree.specs.Paths.{Parts, blocked_at, get_at, put_at}
 use Rattle.event_tree.specs.Value.{TreeValue, str, list, as_values, list_of}
 use Rattle.processors_core.specs.Attempt.{Attempt, Done, Failed}
 
--- what stands there with these behind, where it is a list or nothing
+-- what is there with these after it, if it is a list or nothing
 abbrev pub with_tags : List (List ℕ) → Option TreeValue → Option TreeValue
 with_tags tags None = Some (list (as_values (map str tags)))
 with_tags tags (Some (list values)) = Some (list (as_values (list_of values ++ map str tags)))
@@ -23,7 +23,7 @@ tags_added tags target tree =
     then put_if (codes "add_tags: no list at " ++ target) (parts_of target) (with_tags tags (get_at (parts_of target) tree)) tree
     else Failed (codes "add_tags: no list at " ++ target)
 
--- the list that stands there, an empty one where nothing does
+-- the list that is there, an empty one if nothing is
 abbrev pub list_at : Option TreeValue → Option (List TreeValue)
 list_at None = Some []
 list_at (Some (list values)) = Some (list_of values)

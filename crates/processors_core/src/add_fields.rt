@@ -120,7 +120,7 @@ fn no_map(alloc: Global, target: &NamedPath, tree: Tree) -> Result<Tree, NoMemor
     with_error(alloc, &text, tree)
 }
 
-/// The fields of the map that stands there, none where nothing does.
+/// The fields of the map that is there, none if nothing is.
 #[tactic(auto, using(crate::proofs::Ways::pairs_back))]
 fn fields_at(alloc: Global, found: Option<&Tree>) -> Result<Option<Fields>, NoMemory>
     ensures { IfOk result (λ fields.

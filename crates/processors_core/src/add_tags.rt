@@ -75,7 +75,7 @@ fn no_list(alloc: Global, target: &NamedPath, tree: Tree) -> Result<Tree, NoMemo
     with_error(alloc, &text, tree)
 }
 
-/// The list that stands there, an empty one where nothing does.
+/// The list that is there, an empty one if nothing is.
 #[tactic(auto, using(crate::proofs::Tags::values_back))]
 fn trees_at(alloc: Global, found: Option<&Tree>) -> Result<Option<Trees>, NoMemory>
     ensures { IfOk result (λ list. list ≡ list_at (option_map (λ tree. value_of tree.now) found.entry)) }

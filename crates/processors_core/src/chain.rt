@@ -23,7 +23,7 @@ pub struct Chain {
 }
 
 impl Chain {
-    /// Reads the processors' paths and compiles their patterns. A pattern that is too large when it is compiled is told
+    /// Reads the processors' paths and compiles their patterns. A pattern that is too large when it is compiled is reported
     /// as out of memory.
     pub fn new(alloc: Global, rules: &[ProcessorRule]) -> Result<Chain, NoMemory>
         requires few { length rules.now ≤ 64 }
@@ -39,7 +39,7 @@ impl Chain {
         Ok(Chain { processors })
     }
 
-    /// What the processors make of the tree, one behind the other. Where memory is out the tree is lost; the chain is
+    /// What the processors make of the tree, one after another. Out of memory the tree is lost; the chain is
     /// as before.
     pub fn run(&mut self, alloc: Global, tree: Tree) -> Result<Fate, NoMemory>
         ensures fate { IfOk result (λ fate. (rules : List ProcessorRule) → Runs rules self.old →

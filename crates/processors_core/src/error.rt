@@ -7,7 +7,7 @@ use event_tree::{FieldPath, PathError, PutError, Tree};
 use std::alloc::Global;
 use wire_base::{NoMemory, Text};
 
-/// The tree with the text of an error at `error.message`, where it can stand there.
+/// The tree with the text of an error at `error.message`, if it can be there.
 pub(crate) fn with_error(alloc: Global, text: &Text, tree: Tree) -> Result<Tree, NoMemory>
     ensures { IfOk result (λ after. value_of after ≡ with_error text.now (value_of tree)) }
 {
@@ -43,7 +43,7 @@ fn error_path(alloc: Global) -> Result<FieldPath, NoMemory>
     }
 }
 
-/// The texts so far and this one, where nothing but a text stands there.
+/// The texts so far and this one, if nothing but a text is there.
 fn texts_with(alloc: Global, text: &Text, found: Option<&Tree>) -> Result<Option<Text>, NoMemory>
     ensures { IfOk result (λ texts.
         option_map str texts ≡ with_text text.now (option_map (λ tree. value_of tree.now) found.entry)) }

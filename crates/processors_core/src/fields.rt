@@ -22,7 +22,7 @@ pub(crate) fn find<'a>(fields: &'a Fields, key: &Text) -> Option<&'a Tree>
     None
 }
 
-/// Whether a part of the path stands in something that is no map.
+/// Whether a part of the path is in something that is no map.
 pub(crate) fn is_blocked(tree: &Tree, path: &FieldPath) -> bool
     ensures { result ≡ is_some (blocked_at path.now (value_of tree.now)) }
 {
@@ -55,7 +55,7 @@ pub(crate) fn put_over(alloc: Global, members: &Fields, fields: &mut Fields) -> 
     Ok(())
 }
 
-/// The value over what stands at its place.
+/// The value over what is at its place.
 #[cycle(merge)]
 #[tactic(auto, using(crate::proofs::Overs::map_over))]
 fn merged_value(alloc: Global, value: &Tree, old: Option<&Tree>) -> Result<Tree, NoMemory>

@@ -13,7 +13,7 @@ pub fn chains_go_on()
 {}
 
 /// An event is dropped by the first `drop_event` whose condition holds of the tree as the processors before it left it,
-/// and where there is such a one it is dropped. A law; it computes nothing.
+/// and if there is such a one it is dropped. A law; it computes nothing.
 pub fn first_drop_event()
     ensures is_first { (rules : List ProcessorRule) (tree : TreeValue) (number : ℕ) →
         outcome_of rules tree ≡ Dropped number → IsFirstDrop rules tree number }

@@ -8,8 +8,8 @@
 //! A `Chain` is made of the processors of the settings. It reads their paths and compiles their patterns once, for as
 //! long as it lives, and none for an event; what it makes of a tree is what the definition says, and it drops an event
 //! by rule 10 and the number of the processor. A contract speaks of it by the rules that it runs, which are the same
-//! after each call; out of memory it loses the tree that was given, not the chain. An event's tree is changed where
-//! it stands; it is copied only before a `rename` of several fields that may have to be undone. Nothing here reads
+//! after each call; out of memory it loses the tree that was given, not the chain. An event's tree is changed in
+//! place; it is copied only before a `rename` of several fields that may have to be undone. Nothing here reads
 //! settings or writes an event.
 #![tactic(auto)]
 

@@ -1,4 +1,4 @@
--- The bytes that do not stand as they are in a JSON text (RFC 8259, section 7).
+-- The bytes that do not are written as they are in a JSON text (RFC 8259, section 7).
 use Rattle.std.specs.Prelude.{ℕ, Bool, ◌==◌, ◌||◌, nat_lt}
 
 -- the quotation mark, the backslash and the control characters

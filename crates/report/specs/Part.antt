@@ -1,4 +1,4 @@
--- What stands in a line for one of its parts (this project's profile).
+-- What is in a line for one of its parts (this project's profile).
 use Rattle.std.specs.Prelude.{ℕ, List, decimal}
 use Rattle.std.specs.Fmt.{signed_decimal}
 use Rattle.event_json.specs.Json.{quoted}

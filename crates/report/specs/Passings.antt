@@ -1,5 +1,5 @@
--- The paths that the last scan skipped (this project's profile): a set of pairs of a path and a reason, told in byte
--- order of the paths and then of the reasons, so that a path is told once for each of its reasons.
+-- The paths that the last scan skipped (this project's profile): a set of pairs of a path and a reason, reported in byte
+-- order of the paths and then of the reasons, so that a path is reported once for each of its reasons.
 use Rattle.std.specs.Prelude.{ℕ, List, All, Contains, codes}
 use Rattle.std.specs.List.Sorted.{IsStrictlySortedBy}
 use Rattle.std.specs.Ordering.{ordering_then}

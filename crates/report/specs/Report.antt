@@ -1,5 +1,5 @@
 -- What a run prints (this project's profile): the report, with a line for each row of the registry, for each path and
--- reason for which it was skipped, for the counts and for the status; or the status line alone. Keys and paths of
+-- reason for which it was skipped, for the counts and for the status; or the status line only. Keys and paths of
 -- files are JSON texts.
 use Rattle.std.specs.Prelude.{◌≡◌, ℕ, List, [], ◌++◌, codes, decimal}
 use Rattle.std.specs.List.{flat_map}
@@ -34,7 +34,7 @@ abbrev pub counts_line : ℕ → ℕ → List ℕ
 counts_line shipped dropped =
     codes "shipped " ++ (decimal shipped ++ (codes " dropped " ++ (decimal dropped ++ codes "\n")))
 
--- a key stands as it is
+-- a key is as it is
 abbrev pub settings_text : SettingsError → List ℕ
 settings_text settings.TooLong = codes "too long"
 settings_text settings.NotToml = codes "not toml"
@@ -60,7 +60,7 @@ full_name Files = codes "files"
 full_name Epochs = codes "epochs"
 full_name Slots = codes "slots"
 
--- a key stands as it is
+-- a key is as it is
 abbrev pub lack_text : Lack → List ℕ
 lack_text (Key key) = codes "key " ++ key
 lack_text Follow = codes "follow"
@@ -93,7 +93,7 @@ abbrev pub report_bytes : List Row → List Passing → ℕ → ℕ → Status �
 report_bytes rows ordered shipped dropped status =
     flat_map file_line rows ++ (flat_map passed_line ordered ++ (counts_line shipped dropped ++ status_bytes status))
 
--- the text is the report, in which the skipped paths are a set and told in their order
+-- the text is the report, in which the skipped paths are a set and reported in their order
 pub record IsReport (rows : List Row) (passed : List Passing) (shipped dropped : ℕ) (status : Status) (text : List ℕ) : Type 0 where
   pub ordered : List Passing
   pub passings : ArePassings passed ordered

@@ -2,7 +2,7 @@
 use Rattle.std.specs.Prelude.{◌≡◌, ℕ, List, ◌++◌, take, Option, Some, None, Result, MatchResult}
 use Rattle.outside.specs.declared.failed.Failed.{Failed}
 
--- where the sink tells, all of the text stands behind what it held, or a front of it where the writing failed
+-- if the sink is known, all of the text comes after what it held, or a front of it if the writing failed
 abbrev pub WritesAll : Option (List ℕ) → List ℕ → Result (Unit {0}) Failed → Option (List ℕ) → Type 0
 WritesAll None text result after = after ≡ None
 WritesAll (Some written) text result after = MatchResult result

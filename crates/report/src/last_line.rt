@@ -12,7 +12,7 @@ use outside::{Failed, Sink};
 use wire_base::{Full, Text, Which};
 
 /// Writes the status line, ended by LF (this project's profile); for `OutFault` it writes nothing. Takes
-/// no memory. Where the sink fails, a front of the line is written.
+/// no memory. If the sink fails, a front of the line is written.
 pub fn status_line<S: Sink>(status: &Status, out: &mut S) -> Result<(), Failed>
     ensures told { WritesAll (S.written out.old) (status_bytes status.now) result (S.written out.new) }
     ensures faults_never_fall { S.faults out.old ≤ S.faults out.new }

@@ -1,7 +1,7 @@
 //! How a run ended and what it prints: the report and the status line.
 //!
-//! The text of each line is a definition of `specs/`, and each call is told equal to its definition.
-//! Keys and paths of files stand in it as JSON texts. A line is written part by part to a sink, so
+//! The text of each line is a definition of `specs/`, and each call is proved equal to its definition.
+//! Keys and paths of files are in it as JSON texts. A line is written part by part to a sink, so
 //! the status line takes no memory; the report is spelled whole in memory.
 #![tactic(auto)]
 

@@ -4,7 +4,7 @@ use outside::{Failed, Sink};
 use std::alloc::Global;
 use wire_base::Blob;
 
-/// A sink in memory. A write fails only where there is no memory for it.
+/// A sink in memory. A write fails only if there is no memory for it.
 #[derive(Debug, Drop)]
 pub(crate) struct Page {
     bytes: Vec<u8>,

@@ -13,17 +13,17 @@ use wire_base::Text;
 /// One part of a line.
 #[derive(Clone, Copy, Debug)]
 pub(crate) enum Part<'a> {
-    /// Bytes that stand as they are.
+    /// Bytes that are written as they are.
     Plain(&'a [u8]),
     /// A JSON text.
     Quoted(&'a Text),
     /// A number in decimal.
     Number(u64),
-    /// A number in decimal with a minus where it is negative.
+    /// A number in decimal with a minus if it is negative.
     Signed(i64),
 }
 
-/// Writes the parts one behind the other.
+/// Writes the parts one after another.
 pub(crate) fn write_parts<S: Sink>(out: &mut S, parts: &[Part<'_>]) -> Result<(), Failed>
     ensures told { WritesAll (S.written out.old) (flat_map part_bytes parts.now) result (S.written out.new) }
     ensures faults_never_fall { S.faults out.old ≤ S.faults out.new }

@@ -36,7 +36,7 @@ pub enum Status {
     SourceFault,
     /// There was no room for the file of this path.
     TooMany { what: Full, path: Text },
-    /// Files are told apart by their native numbers, and the system told none for the file of this path.
+    /// Files are distinguished by their native numbers, and the system gave none for the file of this path.
     NoNative { path: Text },
     NoMemory,
     Unbuilt { what: Lack },

@@ -17,7 +17,7 @@ use std::alloc::Global;
 use wire_base::{Blob, NoMemory, Row};
 
 /// The whole report, each line ended by LF: a line for each row, a line for each path and reason in
-/// `passed`, which may be in any order and tell one twice, the number of events shipped and dropped,
+/// `passed`, which may be in any order and have one twice, the number of events shipped and dropped,
 /// and the status line.
 pub fn report_text(
     alloc: Global,

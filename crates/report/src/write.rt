@@ -4,7 +4,7 @@ ghost use Rattle.report.specs.Writing.{WritesAll};
 
 use outside::{Failed, Sink};
 
-/// Writes all of the bytes, or a front of them where the sink fails. Takes no memory.
+/// Writes all of the bytes, or a front of them if the sink fails. Takes no memory.
 pub fn write_all<S: Sink>(out: &mut S, bytes: &[u8]) -> Result<(), Failed>
     ensures told { WritesAll (S.written out.old) bytes.now result (S.written out.new) }
     ensures faults_never_fall { S.faults out.old ≤ S.faults out.new }

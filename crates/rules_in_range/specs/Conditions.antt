@@ -1,5 +1,5 @@
 -- A condition of its form: its lists and tables have members, paths are field paths, a range has a bound, patterns are
--- patterns, and it is nested at most so many levels deep (Filebeat reference, conditions; the forms are this project's
+-- patterns, and it is nested at most this many levels deep (Filebeat reference, conditions; the forms are this project's
 -- profile).
 use Rattle.std.specs.Prelude.{◌≡◌, ◌⊎◌, ℕ, zero, suc, ◌<◌, List, length, All, None, IsSome}
 use Rattle.event_tree.specs.Condition.{rules_of}
@@ -55,7 +55,7 @@ module _ (IsHere : ConditionRule → Type 0) where
   IsBodyInRange (ConditionRule-F.Or rules) = AreSome IsHere (rules_of rules)
   IsBodyInRange (ConditionRule-F.Not inner) = IsHere inner.value
 
--- the condition is of its form, and nested at most so many levels deep
+-- the condition is of its form, and nested at most this many levels deep
 unfoldable pub IsConditionInRange : ℕ → ConditionRule → Type 0
 IsConditionInRange zero rule = ⊥
 IsConditionInRange (suc levels) rule = IsBodyInRange (IsConditionInRange levels) (out-ConditionRule rule)

@@ -39,7 +39,7 @@ pub record IsRenaming (pair : Pair) : Type 0 where
   pub from : IsFieldPath pair.from
   pub to : IsFieldPath pair.to
 
--- the condition under which a processor runs, where it has one
+-- the condition under which a processor runs, if it has one
 abbrev pub IsWhenInRange : Option ConditionRule → Type 0
 IsWhenInRange when = IfSome when (IsConditionInRange 16)
 

@@ -6,7 +6,7 @@ ghost use Rattle.event_tree.specs.declared.condition_rule.ConditionRule.TheVaria
 ghost use Rattle.event_tree.specs.declared.condition_rules.ConditionRules.{ConditionRules};
 ghost use Rattle.rules_in_range.specs.Conditions.{AreSome, IsConditionInRange};
 
-/// A condition that may be nested so many levels deep has a level, and what it joins has one less. A law; it computes
+/// A condition that may be nested this many levels deep has a level, and what it joins has one less. A law; it computes
 /// nothing.
 pub fn a_level_less()
     ensures some_level { (rule : ConditionRule) → ¬ IsConditionInRange 0 rule }

@@ -1,9 +1,9 @@
--- Decimal numbers as they stand in formats: digits without a sign or a leading zero (this project's profile).
+-- Decimal numbers as they are written in formats: digits without a sign or a leading zero (this project's profile).
 use Rattle.std.specs.Prelude.{◌≡◌, ℕ, ◌<◌, List, length, All, slice_get, Some}
 use Rattle.std.specs.Char.{IsAsciiDigit}
 use Rattle.std.specs.Str.Parse.{digits_value}
 
--- at least one digit, and a zero in front only where it stands alone
+-- at least one digit, and a zero in front only if it is by itself
 pub record IsDecimal (bytes : List ℕ) : Type 0 where
   pub some : 0 < length bytes
   pub digits : All IsAsciiDigit bytes

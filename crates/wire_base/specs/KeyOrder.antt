@@ -26,7 +26,7 @@ abbrev pub find : {A : Type 0} → (A → List ℕ) → List ℕ → List A → 
 find key_of key [] = None
 find key_of key (entry ∷ entries) = if is_eq (compare key (key_of entry)) then Some entry else find key_of key entries
 
--- the entries with this one: in place of its key's, or where its key belongs
+-- the entries with this one: in place of its key's, or at the place to which its key belongs
 abbrev pub with_entry : {A : Type 0} → (A → List ℕ) → A → List A → List A
 with_entry key_of entry [] = entry ∷ []
 with_entry key_of entry (other ∷ entries) =

@@ -6,7 +6,7 @@ abbrev pub on_first_part : ℕ → List (List ℕ) → List (List ℕ)
 on_first_part byte [] = (byte ∷ []) ∷ []
 on_first_part byte (part ∷ parts) = (byte ∷ part) ∷ parts
 
--- what stands before, between and behind the slashes: `/a/b` has the parts ``, `a` and `b`
+-- what is before, between and after the slashes: `/a/b` has the parts ``, `a` and `b`
 abbrev pub parts_of : List ℕ → List (List ℕ)
 parts_of [] = [] ∷ []
 parts_of (byte ∷ bytes) = if byte == 47 then [] ∷ parts_of bytes else on_first_part byte (parts_of bytes)

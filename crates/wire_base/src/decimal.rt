@@ -5,7 +5,7 @@ ghost use Rattle.wire_base.specs.Decimal.{IsDecimal, value_of};
 use std::str;
 
 /// The number that decimal digits without a sign or a leading zero stand for, `0` itself allowed;
-/// `None` exactly where the bytes are not such digits of a number below 2^64. Takes no memory.
+/// `None` exactly if the bytes are not such digits of a number below 2^64. Takes no memory.
 pub fn read_decimal(bytes: &[u8]) -> Option<u64>
     ensures { SomeIff result (IsDecimal bytes.now × (value_of bytes.now < 2 ^ 64)) (value_of bytes.now) }
 {

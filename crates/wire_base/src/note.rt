@@ -24,7 +24,7 @@ pub enum Cause {
     Dropped(RuleNo),
 }
 
-/// What the keeper is told.
+/// What is reported to the keeper.
 #[derive(Debug, Drop, PartialEq, Eq)]
 pub enum Note {
     Begin {
@@ -33,7 +33,7 @@ pub enum Note {
         path: Text,
         epoch: Epoch,
         base: u64,
-        /// That of the row with which the run began, or 0 where there was none.
+        /// That of the row with which the run began, or 0 if there was none.
         changed: Moment,
     },
     Announce {

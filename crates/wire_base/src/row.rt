@@ -16,7 +16,7 @@ pub struct Row {
     pub path: Text,
     pub epoch: Epoch,
     pub offset: u64,
-    /// The greatest moment of change with which a scan listed the file; 0 where no scan told one.
+    /// The greatest moment of change with which a scan listed the file; 0 if no scan gave one.
     pub changed: Moment,
 }
 

@@ -23,7 +23,7 @@ impl Model for Span {
 }
 
 impl Span {
-    /// `None` exactly where `start >= end`.
+    /// `None` exactly if `start >= end`.
     pub fn new(start: u64, end: u64) -> Option<Span>
         ensures spans { IfSome result (λ span. (span.start ≡ start) × (span.end ≡ end) × (start < end)) }
         ensures none_where_empty { IfNone result (end ≤ start) }
