@@ -1,4 +1,4 @@
--- Up to where all of a file is settled from a base on, and what is settled behind (this project's profile): settled spans
+-- Up to which place all of a file is settled from a base on, and what is settled after it (this project's profile): settled spans
 -- merged into intervals that neither overlap nor touch each other.
 use Rattle.std.specs.Prelude.{◌≡◌, ◌≢◌, ℕ, ◌<◌, ◌≤◌, All, Contains, List, [], ◌∷◌, ◌++◌, Option, Some, None, unwrap_or}
 use Rattle.std.specs.Map.{lookup}
@@ -8,7 +8,7 @@ use Rattle.wire_base.specs.Extent.{Extent}
 use Rattle.wire_base.specs.Ranges.{IsPlace}
 use Rattle.ship_core.specs.CoveredEnd.{AreEqualOrApart, AreApart}
 
--- the place up to which all is settled, and the intervals behind it: where each begins and ends
+-- the place up to which all is settled, and the intervals after it: where each begins and ends
 pub record Covered : Type 0 where
   pub end : ℕ
   pub ahead : List (ℕ × ℕ)
@@ -35,7 +35,7 @@ pub record Holds (ahead : List (ℕ × ℕ)) (span : Extent) : Type 0 where
   pub before : span.end ≤ end
 
 -- so much of a file is settled by the spans from the base on: they lead from the base to the end, and from the first place
--- to the last of each interval; and each span behind the end lies in an interval
+-- to the last of each interval; and each span after the end lies in an interval
 pub record Covers (spans : List Extent) (base : ℕ) (covered : Covered) : Type 0 where
   pub apart : AreApart spans
   pub reached : IsLed spans base covered.end
@@ -43,7 +43,7 @@ pub record Covers (spans : List Extent) (base : ℕ) (covered : Covered) : Type 
   pub disjoint : (start end next last : ℕ) → interval_at covered.ahead start ≡ Some end → interval_at covered.ahead next ≡ Some last → start < next → end < next
   pub held : (span : Extent) → Contains spans span → span.start < span.end → covered.end ≤ span.start → Holds covered.ahead span
 
--- what holds of any intervals, also where spans overlap that settle them
+-- what holds of any intervals, also if spans overlap that settle them
 pub record IsInRange (covered : Covered) : Type 0 where
   pub end : IsPlace covered.end
   pub intervals : (start end : ℕ) → interval_at covered.ahead start ≡ Some end → (start < end) × IsPlace end
@@ -64,7 +64,7 @@ pub record Joins (old new : List (ℕ × ℕ)) (start end : ℕ) : Type 0 where
   pub gone : interval_at new end ≡ None
   pub others : (other : ℕ) → other ≢ start → other ≢ end → interval_at new other ≡ interval_at old other
 
--- the last interval that does not begin behind the place, or none
+-- the last interval that does not begin after the place, or none
 abbrev pub IsLastBefore : List (ℕ × ℕ) → ℕ → Option (ℕ × ℕ) → Type 0
 IsLastBefore ahead place None = (start : ℕ) → start ≤ place → interval_at ahead start ≡ None
 IsLastBefore ahead place (Some interval) = (interval_at ahead interval.0 ≡ Some interval.1) × (interval.0 ≤ place) × ((start : ℕ) → start ≤ place → interval.0 < start → interval_at ahead start ≡ None)

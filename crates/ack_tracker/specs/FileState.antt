@@ -31,7 +31,7 @@ is_reached (Some reach) epoch end = nat_lt reach.epoch epoch || ((reach.epoch ==
 abbrev pub is_gone : FileState → Bool
 is_gone file = is_reached file.least file.epoch file.covered.end
 
--- how far the file is done; none where its row is gone
+-- how far the file is done; none if its row is gone
 abbrev pub place_in : FileState → Option (Epoch × ℕ)
 place_in file = if is_gone file then None else Some (record { 0 = file.epoch }, file.covered.end)
 

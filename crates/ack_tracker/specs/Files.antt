@@ -24,7 +24,7 @@ gone_slot files entry = if went (file_of files entry.0) then Some entry.0 else N
 abbrev pub gone_among : List (ℕ × FileState) → List ℕ
 gone_among files = filter_map (gone_slot files) files
 
--- each slot that was begun has its file; and where notes are orderly, this is what they come to
+-- each slot that was begun has its file; and if notes are orderly, this is what they come to
 pub record AreOf (files : List (ℕ × FileState)) (notes : List Note) : Type 0 where
   pub begun : (slot : ℕ) (file : FileState) → file_of files slot ≡ Some file → (start : Start) × (start_over (notes_of slot notes) ≡ Some start) × (start.key ≡ file.key)
   pub none : (slot : ℕ) → file_of files slot ≡ None → start_over (notes_of slot notes) ≡ None

@@ -59,7 +59,7 @@ abbrev pub later : Option ℕ → ℕ → Option ℕ
 later None slot = Some slot
 later (Some other) slot = Some (max other slot)
 
--- the greatest of these slots that stand
+-- the greatest of these slots whose rows are there
 abbrev pub latest_of : List (ℕ × FileState) → List ℕ → Option ℕ → List ℕ → Option ℕ
 latest_of files key latest [] = latest
 latest_of files key latest (slot ∷ slots) = latest_of files key (if stands (file_of files slot) key then later latest slot else latest) slots
@@ -71,7 +71,7 @@ is_begun files key slots = list_any (λ slot. has_key (file_of files slot) key) 
 abbrev pub row_at : List (ℕ × FileState) → ℕ → Option Row
 row_at files slot = option_and_then row_in (file_of files slot)
 
--- the row of a key that began with some of these slots: none where it is gone; nothing where no slot began with the key
+-- the row of a key that began with some of these slots: none if it is gone; nothing if no slot began with the key
 abbrev pub row_now : List (ℕ × FileState) → List ℕ → List ℕ → Option (Option Row)
 row_now files slots key = if is_begun files key slots then Some (option_and_then (row_at files) (latest_of files key None slots)) else None
 
@@ -83,7 +83,7 @@ row_before opening files slots key = unwrap_or (row_now files (slots_at slots ke
 abbrev pub change_now : List (ℕ × FileState) → List (List ℕ × List ℕ) → List ℕ × Option Row → Option Op
 change_now files slots entry = option_and_then (change_of entry.0 entry.1) (row_now files (slots_at slots entry.0) entry.0)
 
--- the change of a key, where it was noted
+-- the change of a key, if it was noted
 abbrev pub change_kept : List (ℕ × FileState) → List ℕ × Keyed → Option Op
 change_kept files entry = option_and_then (λ was. option_and_then (change_of entry.0 was) (row_now files entry.1.slots entry.0)) entry.1.was
 

@@ -7,7 +7,7 @@ use std::collections::BTreeMap;
 use std::marker::Model;
 use wire_base::{NoMemory, Span};
 
-/// Up to where all is settled from a base on, and where settled intervals behind that begin and end.
+/// Up to where all is settled from a base on, and where settled intervals after that begin and end.
 #[derive(Debug, Drop)]
 pub(crate) struct Coverage {
     end: u64,
@@ -35,7 +35,7 @@ impl Coverage {
         }
     }
 
-    /// Up to where all is settled.
+    /// The place up to which all is settled.
     pub(crate) fn end(&self) -> u64
         ensures end { result ≡ self.now.end }
         ensures in_range { IsPlace result }

@@ -16,7 +16,7 @@ use wire_base::{Epoch, Moment, NoMemory, Note, Row, Slot, Span, Text};
 pub(crate) struct File {
     key: Text,
     path: Text,
-    /// The scan that found the path; none where the Begin told it.
+    /// The scan that found the path; none if the Begin gave it.
     scan: Option<u64>,
     /// The greatest that was named.
     epoch: u32,
@@ -227,7 +227,7 @@ impl File {
         }
     }
 
-    /// How far the file is done; none where its row is gone.
+    /// How far the file is done; none if its row is gone.
     pub(crate) fn place(&self) -> Option<(Epoch, u64)>
         ensures place { result ≡ place_in self.now }
         ensures in_range { IfSome result (λ place. IsPlace place.1) }
@@ -239,7 +239,7 @@ impl File {
         }
     }
 
-    /// The file's row; none where it is gone.
+    /// The file's row; none if it is gone.
     pub(crate) fn row(&self, alloc: Global) -> Result<Option<Row>, NoMemory>
         ensures row { IfOk result (λ row. row ≡ row_in self.now) }
         ensures in_range { IfOk result (λ row. IfSome row IsRow) }
@@ -257,7 +257,7 @@ impl File {
     }
 }
 
-/// Whether the path was found by a scan before this one, or told by the Begin.
+/// Whether the path was found by a scan before this one, or given by the Begin.
 fn is_older(found: Option<u64>, scan: u64) -> bool
     ensures { result ≡ is_older found scan }
 {

@@ -6,7 +6,7 @@ use std::fmt;
 use std::marker::Model;
 use wire_base::Note;
 
-/// The notes that were told. It has no bytes: contracts alone read it.
+/// The notes that it was given. It has no bytes: only contracts read it.
 #[derive(Drop)]
 pub(crate) struct History {
     pub ghost notes: { List Note },

@@ -14,7 +14,7 @@ use wire_base::{NoMemory, Op, Row, Text};
 pub(crate) struct Keyed {
     /// The slots that Begins gave to it.
     pub slots: Slots,
-    /// The row that it had at the last commit; nothing where it was not noted since.
+    /// The row that it had at the last commit; nothing if it was not noted since.
     pub was: Option<Option<Row>>,
 }
 
@@ -58,7 +58,7 @@ impl Keyed {
         }
     }
 
-    /// What leads from the row that was kept to the present one; nothing where none was kept, or nothing changed.
+    /// What leads from the row that was kept to the present one; nothing if none was kept, or nothing changed.
     pub(crate) fn change(
         &self,
         alloc: Global,
@@ -79,7 +79,7 @@ impl Keyed {
     }
 }
 
-/// The row of a key with these slots: that of a slot, or the opening one where none began with it.
+/// The row of a key with these slots: that of a slot, or the opening one if none began with it.
 fn row_before(
     alloc: Global,
     opening: &Rows,
@@ -99,7 +99,7 @@ fn row_before(
     }
 }
 
-/// The row of a key that began with some of these slots; `None` where it did not.
+/// The row of a key that began with some of these slots; `None` if it did not.
 fn row_now(
     alloc: Global,
     files: &Files,

@@ -124,7 +124,7 @@ impl Keys {
     }
 }
 
-/// The keys of a map ascend, as its length tells.
+/// The keys of a map ascend, and its length says how many there are.
 fn are_in_order(by_key: &ByKey)
     ensures { IsOrdered compare by_key.now }
 {

@@ -46,7 +46,7 @@ impl Slots {
         is_begun(files, key, &self.slots)
     }
 
-    /// The greatest of them that stands.
+    /// The greatest of them whose row is there.
     pub(crate) fn latest(&self, files: &BTreeMap<u32, File>, key: &Text) -> Option<u32>
         ensures { result ≡ latest_of files.now.entries key.now None self.now }
     {

@@ -20,7 +20,7 @@ use std::collections::BTreeMap;
 use std::marker::Model;
 use wire_base::{Epoch, NoMemory, Note, Op, Row, Slot};
 
-/// What notes tell of files, over the rows that the registry had at first.
+/// What notes say of files, over the rows that the registry had at first.
 #[derive(Debug, Drop)]
 pub struct Tracker {
     opening: Rows,
@@ -123,7 +123,7 @@ impl Tracker {
     }
 
     /// How far the slot's file is done: its epoch, and the place in bytes up to which all is settled. `None` exactly
-    /// where the slot has no Begin or its row is gone. Takes no memory.
+    /// if the slot has no Begin or its row is gone. Takes no memory.
     pub fn offset(&self, slot: Slot) -> Option<(Epoch, u64)>
         ensures by_the_notes { AreOrderly self.now.notes →
             result ≡ place_over slot.0 self.now.notes }
@@ -143,7 +143,7 @@ impl Tracker {
     }
 
     /// The slot's row: how far its file is done, under which key and path, and when the file last changed. `Ok(None)`
-    /// comes exactly where `offset` answers `None`.
+    /// comes exactly when `offset` answers `None`.
     pub fn row(&self, alloc: Global, slot: Slot) -> Result<Option<Row>, NoMemory>
         ensures by_the_notes { AreOrderly self.now.notes →
             IfOk result (λ row. row ≡ row_over slot.0 self.now.notes) }

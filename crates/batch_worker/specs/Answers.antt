@@ -85,7 +85,7 @@ pub record IsWaiting {L : Type 0} (told : L → Option Talk) (idles : L → ℕ)
 
 -- ---- failures
 
--- no link could be made; the refusal stands among the outcomes, where the wire tells
+-- no link could be made; the refusal is among the outcomes, if the wire is known
 pub record IsRefused {L : Type 0} (before after : Seen) (old : Working L) : Type 0 where
   pub unlinked : old.link ≡ None
   pub rose : Rose before.faults after.faults
@@ -129,7 +129,7 @@ abbrev pub FaultIsTold : Option Talk → ℕ → Type 0
 FaultIsTold None at = ⊥
 FaultIsTold (Some talk) at = IsFaultAt talk.pieces at
 
--- so it is where the wire tells, and the worker stands for what its talks acknowledged
+-- the same holds if the wire is known, and the worker stands for what its talks acknowledged
 abbrev pub IsPeersFault : {L : Type 0} → (L → Option Talk) → Seen → Working L → ℕ → L → L → Type 0
 IsPeersFault told before old at link ended = (start : ℕ) (acknowledged : List Parcel) → StandsFor told start old before.outcomes acknowledged → IfSome before.outcomes (λ _. FaultIsTold (told ended) at)
 

@@ -1,5 +1,5 @@
 -- A worker that is to finish its link (this project's profile): with the link's talk, the talks of its links acknowledge the
--- parcels that it has acknowledged, and send nothing but what it took. Cited by private calls alone.
+-- parcels that it has acknowledged, and send nothing but what it took. Cited only by private calls.
 use Rattle.std.specs.Prelude.{◌≡◌, ℕ, ◌-◌, ◌≤◌, List, [], ◌∷◌, ◌++◌, length, drop, Option, Some, None, IfSome}
 use Rattle.lumber_client.specs.Exchange.{Exchange, acknowledged_in, payloads_of}
 use Rattle.lumber_client.specs.Held.{made_again}
@@ -21,7 +21,7 @@ pub record HasTalks (most : ℕ) (acknowledged taken : List Parcel) (outcomes : 
   pub acknowledges : AcknowledgeInAll outcomes (payloads_of acknowledged)
   pub sent : AreSentOnly most taken outcomes
 
--- so it is once the link is finished, whatever its counts
+-- this holds once the link is finished, whatever its counts
 abbrev pub WithTalk : ℕ → List Parcel → List Parcel → List Outcome → Option Talk → Type 0
 WithTalk most acknowledged taken outcomes None = ⊥
 WithTalk most acknowledged taken outcomes (Some talk) = (faults idles : ℕ) → HasTalks most acknowledged taken (outcomes ++ Finished talk faults idles ∷ [])
@@ -47,12 +47,12 @@ pub record IsFinished {L : Type 0} (told : L → Option Talk) (faults idles : L 
   pub counts_faults : added_counts before.faults (faults link) ≤ after.faults
   pub counts_idles : added_counts before.idles (idles link) ≤ after.idles
 
--- where there is one
+-- if there is one
 abbrev pub EndsLink : {L : Type 0} → (L → Option Talk) → (L → ℕ) → (L → ℕ) → Option L → Seen → Seen → Type 0
 EndsLink told faults idles None before after = after ≡ before
 EndsLink told faults idles (Some link) before after = IsFinished told faults idles link before after
 
--- the worker behind one more failure
+-- the worker after one more failure
 abbrev pub failed_at : {L : Type 0} → Working L → Moment → Working L
 failed_at w now = record w { failures = one_failure_more w.failures; failed = now }
 

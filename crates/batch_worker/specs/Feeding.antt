@@ -1,5 +1,5 @@
 -- Bytes of a peer that a window was given one by one, up to the first fault (this project's profile). Cited by private calls
--- alone.
+-- only.
 use Rattle.std.specs.Prelude.{◌≡◌, ℕ, ◌+◌, ◌-◌, ◌^◌, min, List, [], ◌∷◌, ◌++◌, length, Option, Some, None}
 use Rattle.lumber_client.specs.Exchange.{Exchange, with_talk}
 use Rattle.lumber_client.specs.Held.{Held}
@@ -13,7 +13,7 @@ abbrev pub with_bytes : List Piece → List ℕ → List Piece
 with_bytes talk [] = talk
 with_bytes talk (byte ∷ bytes) = talk ++ In (byte ∷ bytes) ∷ []
 
--- the byte behind the front made a fault, and those behind it were not given
+-- the byte after the front made a fault, and those after it were not given
 pub record FeedsTo (new : Held) (e : Exchange) (bytes : List ℕ) (at : ℕ) : Type 0 where
   pub front : List ℕ
   pub byte : ℕ

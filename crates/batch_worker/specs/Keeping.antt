@@ -16,17 +16,17 @@ use Rattle.batch_worker.specs.Seen.{Seen, with_link}
 use Rattle.batch_worker.specs.Standing.{StandsFor}
 use Rattle.batch_worker.specs.Working.{Working}
 
--- these were taken behind the others
+-- these were taken after the others
 abbrev pub with_taken : Option Known → List Entry → Option Known
 with_taken None entries = None
 with_taken (Some take) entries = Some (known take.queue take.share (take.entries ++ entries))
 
--- these were posted behind the others, under the same name
+-- these were posted after the others, under the same name
 abbrev pub with_posted : Option Poster → List Note → Option Poster
 with_posted None notes = None
 with_posted (Some post) notes = Some (poster post.desk post.share (sender post.mine.name post.mine.made (post.mine.posted ++ notes)) post.joined)
 
--- from what a worker stands for before to what it stands for behind: `Before` and `After` say it of a place among the wire's
+-- from what a worker stands for before to what it stands for afterwards: `Before` and `After` say it of a place among the wire's
 -- outcomes and of the parcels that were acknowledged since then
 pub record Keeps {L : Type 0} (Before After : ℕ → List Parcel → Type 0) (before after : Seen) (old new : Working L) : Type 0 where
   -- what was taken, acknowledged and posted, each in order
@@ -64,7 +64,7 @@ pub record SameMoments {L : Type 0} (old new : Working L) : Type 0 where
 
 -- ---- failures in a row
 
--- so many still stand where these parcels were acknowledged
+-- this many are still there if these parcels were acknowledged
 abbrev pub failures_since : List Parcel → ℕ → ℕ
 failures_since [] failures = failures
 failures_since (parcel ∷ parcels) failures = 0

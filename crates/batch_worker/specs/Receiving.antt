@@ -1,4 +1,4 @@
--- What a worker makes of the bytes of its peer (this project's profile). Cited by private calls alone.
+-- What a worker makes of the bytes of its peer (this project's profile). Cited only by private calls.
 use Rattle.std.specs.Prelude.{◌≡◌, ℕ, ◌-◌, ◌≤◌, List, [], ◌∷◌, length, drop, Option, Some, None, is_some}
 use Rattle.lumber_client.specs.Exchange.{Exchange}
 use Rattle.lumber_client.specs.Held.{Held, made_again}
@@ -20,7 +20,7 @@ use Rattle.batch_worker.specs.Working.{Working}
 abbrev pub outs_kept : List Moment → ℕ → List Moment
 outs_kept outs kept = drop (length outs - kept) outs
 
--- behind a fault the window was made again
+-- after a fault the window was made again
 abbrev pub window_behind : Option ℕ → Held → Held
 window_behind None window = window
 window_behind (Some at) window = made_again window

@@ -4,7 +4,7 @@ use Rattle.std.specs.Prelude.{ℕ, ◌+◌, ◌-◌, ◌*◌, ◌^◌, ◌<◌, 
 use Rattle.batch_worker.specs.declared.worker.TheConstants.{FIRST_REST, LONGEST_REST}
 use Rattle.batch_worker.specs.Working.{Working}
 
--- after so many failures in a row, at least 1, in milliseconds
+-- after this many failures in a row, at least 1, in milliseconds
 abbrev pub rest_after : ℕ → ℕ
 rest_after failures = min LONGEST_REST (FIRST_REST * 2 ^ (failures - 1))
 
@@ -12,7 +12,7 @@ rest_after failures = min LONGEST_REST (FIRST_REST * 2 ^ (failures - 1))
 abbrev pub rest_end : {L : Type 0} → Working L → ℕ
 rest_end w = w.failed.0 + rest_after w.failures
 
--- a failure stands, and the rest has not ended
+-- there is a failure, and the rest has not ended
 pub record IsResting {L : Type 0} (w : Working L) (now : ℕ) : Type 0 where
   pub failed : 0 < w.failures
   pub early : now < rest_end w

@@ -9,7 +9,7 @@ use Rattle.outside.specs.Wires.{Outcome, Refused, Finished}
 use Rattle.wire_base.specs.declared.parcel.Parcel.{Parcel}
 use Rattle.wire_base.specs.declared.talk.Piece.{Piece}
 
--- no window has more than so many parcels
+-- no window has more than this many parcels
 abbrev pub AreSmall : ℕ → List (List Parcel) → Type 0
 AreSmall most windows = AllByRecursion (λ window. length window ≤ most) windows
 

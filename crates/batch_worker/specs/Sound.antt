@@ -6,7 +6,7 @@ use Rattle.settle_box.specs.Notes.{IsPostable}
 use Rattle.wire_base.specs.Ranges.{IsMoment, IsNote}
 use Rattle.batch_worker.specs.declared.worker.Worker.TheInside.{Inside}
 
--- 1 where a window is going out
+-- 1 if a window is going out
 abbrev pub going_out : List ℕ → ℕ
 going_out [] = 0
 going_out (byte ∷ bytes) = 1

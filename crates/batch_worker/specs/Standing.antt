@@ -17,13 +17,13 @@ abbrev pub HasTalk : Option Talk → List Piece → Type 0
 HasTalk None pieces = ⊥
 HasTalk (Some talk) pieces = talk.pieces ≡ pieces
 
--- the link's talk, where the wire tells; without a link there is none
+-- the link's talk, if the wire is known; without a link there is none
 abbrev pub Speaks : {L : Type 0} → (L → Option Talk) → Option L → Option (List Outcome) → List Piece → Type 0
 Speaks told None outcomes pieces = pieces ≡ []
 Speaks told (Some link) None pieces = Unit {0}
 Speaks told (Some link) (Some outcomes) pieces = HasTalk (told link) pieces
 
--- how many outcomes the wire has told; none where it does not tell
+-- how many outcomes the wire has reported; none if it is not known
 abbrev pub length_of : Option (List Outcome) → ℕ
 length_of None = 0
 length_of (Some outcomes) = length outcomes

@@ -1,4 +1,4 @@
--- Steps of a worker (this project's profile). Cited by private calls alone.
+-- Steps of a worker (this project's profile). Cited only by private calls.
 use Rattle.std.specs.Prelude.{◌≡◌, ◌⊎◌, ℕ, suc, ◌<◌, ◌≤◌, List, [], ◌∷◌, ◌++◌, length, take, Option, Some, None, Ok}
 use Rattle.atomic_table.specs.Seated.{TableId}
 use Rattle.lumber_client.specs.Exchange.{Exchange, with_begun, with_handed, with_sent}
@@ -50,7 +50,7 @@ pub record TakesOne {L : Type 0} (old new : Working L) : Type 0 where
   pub is : new ≡ record old { take = with_taken old.take (entry ∷ []); window = with_offered old.window entry.parcel }
   pub stands : (e : Exchange) → WindowStandsFor old.window e → WindowStandsFor new.window e
 
--- a note was posted, where there is one
+-- a note was posted, if there is one
 abbrev pub with_noted : Option Poster → Option Note → Option Poster
 with_noted post None = post
 with_noted post (Some note) = with_posted post (note ∷ [])

@@ -4,7 +4,7 @@ use Rattle.std.specs.Prelude.{ℕ, max, List, [], ◌∷◌}
 use Rattle.wire_base.specs.declared.numbers.Moment.{Moment}
 use Rattle.batch_worker.specs.Working.{Working}
 
--- when the oldest of these windows was out; 0 where there is none
+-- when the oldest of these windows was out; 0 if there is none
 abbrev pub oldest_out : List Moment → ℕ
 oldest_out [] = 0
 oldest_out (out ∷ outs) = out.0

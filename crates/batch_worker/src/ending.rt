@@ -46,7 +46,7 @@ impl<L: Link> Worker<L> {
         }
     }
 
-    /// Finishes the link behind a failure. What is not acknowledged waits for the next one.
+    /// Finishes the link after a failure. What is not acknowledged waits for the next one.
     pub(crate) fn fail<W: Wire<Link = L>>(&mut self, wire: &mut W, now: Moment)
         requires moment { IsMoment now }
         ensures failed { self.new ≡ unlinked (failed_at self.old now) }

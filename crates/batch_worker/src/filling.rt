@@ -55,7 +55,7 @@ impl<L: Link> Worker<L> {
         self.window.can_offer()
     }
 
-    /// Takes parcels, where a further window may be begun; whether some wait to be begun.
+    /// Takes parcels, if a further window may be begun; whether some wait to be begun.
     pub(crate) fn gather<R: Wait>(&mut self, rt: &R, queue: &EventQueue) -> bool
         requires of_this_queue { TakesOf queue.now.id self.old.take }
         requires nothing_to_settle { self.old.window.acknowledged ≡ 0 }

@@ -8,7 +8,7 @@ ghost use Rattle.batch_worker.specs.Working.{Working};
 
 use outside::Link;
 
-/// What calls of a worker keep holds of two calls, one behind the other, where it holds of each; of
+/// What calls of a worker keep holds of two calls, one after the other, if it holds of each; of
 /// a worker that does nothing; and of each turn, whatever it answers. A law; it computes nothing.
 pub fn keeping_goes_on<L: Link>()
     ensures nothing { (seen : Seen) (worker : Working L) →

@@ -2,9 +2,9 @@
 //! of them is posted, and nothing else.
 //!
 //! A worker takes parcels as it may begin a window, connects only when it has one, sends windows one
-//! behind the other, and reads the peer only when all that was begun is out. After a failure it
+//! after the other, and reads the peer only when all that was begun is out. After a failure it
 //! finishes its link and rests; what is not acknowledged is sent again over the next link, in its
-//! old order. What is acknowledged is posted as a settled span, and is held where the box is full.
+//! old order. What is acknowledged is posted as a settled span, and is held while the box is full.
 //!
 //! Contracts see a worker as what it holds, and say what its calls keep: each parcel that it took is
 //! acknowledged or carried, each that is acknowledged is posted or owed, all in order, and the talks

@@ -14,7 +14,7 @@ use wire_base::{Cause, Note};
 
 impl<L: Link> Worker<L> {
     /// Posts what was acknowledged and is not posted yet, in order. Whether none of it is left; some
-    /// is left only where the box was full.
+    /// is left only if the box was full.
     pub fn hand_on<R: Wait>(&mut self, rt: &R, desk: &SettleBox) -> bool
         requires of_this_box { PostsOf desk.now.id self.old.post }
         ensures goes { (s : Seen) → WorkerGoes L.told s s self.old self.new }

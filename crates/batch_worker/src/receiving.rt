@@ -44,7 +44,7 @@ impl<L: Link> Worker<L> {
         }
     }
 
-    /// Gives the window these bytes. Behind a fault it is made again, since nothing counts there.
+    /// Gives the window these bytes. After a fault it is made again, since nothing counts there.
     fn hear(&mut self, bytes: &[u8], now: Moment) -> Option<u64>
         requires all_is_out { self.old.window.out ≡ [] }
         ensures { Hears now self.old self.new bytes.now result }
@@ -66,7 +66,7 @@ impl<L: Link> Worker<L> {
     }
 }
 
-/// Keeps the last so many moments.
+/// Keeps this many of the last moments.
 fn forget_oldest(outs: &mut VecDeque<Moment>, kept: usize)
     ensures kept { outs.new.items ≡ outs_kept outs.old.items kept }
     ensures capacity { deque_capacity outs.new ≡ deque_capacity outs.old }
@@ -76,7 +76,7 @@ fn forget_oldest(outs: &mut VecDeque<Moment>, kept: usize)
     }
 }
 
-/// The failures that still stand in a row; none where something was acknowledged.
+/// The failures in a row so far; none if something was acknowledged.
 fn failures_since(acknowledged: bool, failures: u32) -> u32
     ensures { result ≡ (if acknowledged then 0 else failures) }
 {

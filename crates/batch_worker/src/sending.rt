@@ -37,7 +37,7 @@ impl<L: Link> Worker<L> {
         !self.window.out().is_empty()
     }
 
-    /// Makes a link where there is none; whether there is one.
+    /// Makes a link if there is none; whether there is one.
     pub(crate) fn connect<W: Wire<Link = L>>(&mut self, wire: &mut W) -> bool
         ensures goes { WorkerGoes L.told
             (seen (W.outcomes wire.old) (W.open_links wire.old) (W.faults wire.old) (W.idles wire.old))

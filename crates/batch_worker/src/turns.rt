@@ -69,7 +69,7 @@ impl<L: Link> Worker<L> {
         }
     }
 
-    /// Begins a further window, where one may be begun and parcels are there, or receives.
+    /// Begins a further window, if one may be begun and parcels are there, or receives.
     fn go_on<R: Wait, W: Wire<Link = L>>(
         &mut self,
         rt: &R,

@@ -27,7 +27,7 @@ pub const FIRST_REST: u64 = 1_000;
 pub const LONGEST_REST: u64 = 60_000;
 
 /// One worker, which carries parcels of the queue to its peer and posts what the peer acknowledged.
-/// It is let go by `end` alone.
+/// Only `end` closes it.
 pub struct Worker<L> {
     pub(crate) host: Host,
     pub(crate) timeout: u64,
@@ -35,7 +35,7 @@ pub struct Worker<L> {
     pub(crate) post: Option<PostPass>,
     pub(crate) link: Option<L>,
     pub(crate) window: Window,
-    /// The note of the parcel that was handed out last, where the box refused it.
+    /// The note of the parcel that was handed out last, if the box refused it.
     pub(crate) refused: Option<Note>,
     pub(crate) failures: u32,
     pub(crate) failed: Moment,
@@ -151,7 +151,7 @@ impl<L: Link> Worker<L> {
     }
 }
 
-/// How long a worker rests after so many failures in a row, in milliseconds.
+/// How long a worker rests after this many failures in a row, in milliseconds.
 fn rest_after(failures: u32) -> u64
     requires { 0 < failures }
     ensures { result ≡ rest_after failures }

@@ -26,7 +26,7 @@ IsAskable (Fingerprint offset count) = (0 < count) × IsPlace (offset + count)
 IsAskable Native = Unit {0}
 IsAskable Path = Unit {0}
 
--- ---- what is answered, whether or not the tail tells its looks
+-- ---- what is answered, whether or not the tail reports its looks
 
 -- the fingerprint is of some bytes, as many as are wanted
 pub record IsOfBytes (id : List ℕ) (count : ℕ) (key : List ℕ) : Type 0 where
@@ -51,11 +51,11 @@ IsAnswer id rule path numbers (TooSmall place) = IsWithin rule place
 
 -- ---- what is answered by the looks
 
--- a file of these lives, with the numbers that its tail tells
+-- a file of these lives, with the numbers that its tail reports
 abbrev pub with_numbers : Option (ℕ × ℕ) → File → File
 with_numbers numbers file = record file { numbers = numbers }
 
--- the key that the looks gave, or none, where the last of them got nothing; a fault cut them
+-- the key that the looks gave, or none, if the last of them got nothing; a fault cut them
 abbrev pub IsGiven : List ℕ → IdentityRule → List ℕ → File → List Look → Result Identity IdentityError → Type 0
 IsGiven id rule path file looks (Ok (Key key)) = IsAsking rule looks × (given_key id rule path file looks ≡ Some key)
 IsGiven id rule path file looks (Ok (TooSmall place)) = IsAsking rule looks × (given_key id rule path file looks ≡ None) × EndsWithNone place looks
@@ -82,7 +82,7 @@ pub record IsCompared (id : List ℕ) (rule : IdentityRule) (key : List ℕ) (nu
 
 -- ---- refusals; out of memory may come with any
 
--- the kind is native and no numbers were told
+-- the kind is native and no numbers were given
 abbrev pub LacksNumbers : IdentityRule → Option (ℕ × ℕ) → Type 0
 LacksNumbers rule numbers = (rule ≡ Native) × (numbers ≡ None)
 

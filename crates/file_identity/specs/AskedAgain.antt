@@ -1,6 +1,6 @@
--- Whether a file still has its key, as it is asked again where a new life begins (Filebeat reference, file identity; this
--- project's profile). An asking that met a fault is made again, before anything else is asked of the file; the first one that
--- met none decides.
+-- Whether a file still has its key, as it is asked again when a new life begins (Filebeat reference, file identity; this
+-- project's profile). An asking that hit a fault is made again, before anything else is asked of the file; the first one that
+-- hit none decides.
 use Rattle.std.specs.Prelude.{◌≡◌, ◌≢◌, ◌⊎◌, ℕ, List, ◌++◌, flat_map, Some, None}
 use Rattle.std.specs.List.{AllByRecursion}
 use Rattle.event_tree.specs.declared.input_rule.IdentityRule.{IdentityRule}
@@ -21,13 +21,13 @@ abbrev pub IsRead : Question → Type 0
 IsRead Length = ⊥
 IsRead (ReadAt place count) = Unit {0}
 
--- the looks of askings that a fault cut, one behind the other
+-- the looks of askings that a fault cut, one after another
 pub record AreCutAskings (rule : IdentityRule) (looks : List Look) : Type 0 where
   pub askings : List (List Look)
   pub together : looks ≡ flat_map (λ asking. asking) askings
   pub each : AllByRecursion (IsCutAsking rule) askings
 
--- an asking gave the key, at once or again behind those that met a fault, before anything else was asked
+-- an asking gave the key, at once or again after those that hit a fault, before anything else was asked
 pub record StillHasKey (rule : InputRule) (key path : List ℕ) (file : File) (looks : List Look) : Type 0 where
   pub before : List Look
   pub asked : List Look
@@ -36,11 +36,11 @@ pub record StillHasKey (rule : InputRule) (key path : List ℕ) (file : File) (l
   pub cut : AreCutAskings rule.file_identity before
   pub gives : GivesKey rule key path file asked
 
--- where a new life begins the file still has the key
+-- when a new life begins the file still has the key
 abbrev pub KeepsKey : InputRule → List ℕ → List ℕ → File → Segment → Type 0
 KeepsKey rule key path file segment = (segment.fall ≡ None) ⊎ StillHasKey rule key path file segment.looks
 
--- so the first asking that met no fault gave another key, or none
+-- the first asking that hit no fault gave another key, or none
 pub record HasOtherKey (rule : InputRule) (key path : List ℕ) (file : File) (looks : List Look) : Type 0 where
   pub before : List Look
   pub asked : List Look

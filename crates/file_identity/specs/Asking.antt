@@ -1,5 +1,5 @@
 -- What one asking for a file's key gave, by the bytes that its own looks gave (Filebeat reference, file identity,
--- `fingerprint`; this project's profile): the key where all bytes of the fingerprint came, and none where a read gave
+-- `fingerprint`; this project's profile): the key if all bytes of the fingerprint came, and none if a read gave
 -- nothing before. A key of a path or of native numbers asks for no look.
 use Rattle.std.specs.Prelude.{◌≡◌, ℕ, zero, suc, ◌+◌, ◌-◌, ◌<◌, ◌≤◌, ◌==◌, List, [], ◌∷◌, length, flat_map, Option, Some, None, if◌then◌else◌}
 use Rattle.event_tree.specs.declared.input_rule.IdentityRule.{IdentityRule}
@@ -11,17 +11,17 @@ use Rattle.outside.specs.declared.history.Question.TheVariants.{Length, ReadAt}
 use Rattle.outside.specs.Files.{File}
 use Rattle.file_identity.specs.Key.{fingerprint_key, named_key}
 
--- the bytes that the looks gave, one read behind the other
+-- the bytes that the looks gave, one read after another
 abbrev pub given : File → List Look → List ℕ
 given file looks = flat_map (λ look. bytes_by file look.question look.sight) looks
 
--- a read at the place, of which so many bytes are wanted; where it gives nothing there is no further look
+-- a read at the place, of which this many bytes are wanted; if it gives nothing there is no further look
 abbrev pub ReadsOn : ℕ → ℕ → (ℕ → ℕ → Type 0) → Type 0 → Question → Type 0
 ReadsOn place wanted Later NoLater Length = ⊥
 ReadsOn place wanted Later NoLater (ReadAt at zero) = (at ≡ place) × NoLater
 ReadsOn place wanted Later NoLater (ReadAt at (suc more)) = (at ≡ place) × (suc more ≤ wanted) × Later (place + suc more) (wanted - suc more)
 
--- the reads of so many bytes from the place on, one behind the other, until all came or one gave nothing
+-- the reads of this many bytes from the place on, one after another, until all came or one gave nothing
 abbrev pub AreReads : List Look → ℕ → ℕ → Type 0
 AreReads [] place wanted = wanted ≡ 0
 AreReads (look ∷ looks) place wanted =
@@ -33,7 +33,7 @@ ArePartReads [] place wanted = Unit {0}
 ArePartReads (look ∷ looks) place wanted =
     (0 < wanted) × ReadsOn place wanted (λ next left. ArePartReads looks next left) (looks ≡ []) look.question
 
--- those of an asking that a fault cut: each gave bytes, and behind the last some byte is still wanted
+-- those of an asking that a fault cut: each gave bytes, and after the last some byte is still wanted
 abbrev pub AreCutReads : List Look → ℕ → ℕ → Type 0
 AreCutReads [] place wanted = 0 < wanted
 AreCutReads (look ∷ looks) place wanted =
@@ -50,13 +50,13 @@ IsCutAsking (Fingerprint offset count) looks = AreCutReads looks offset count
 IsCutAsking Native looks = ⊥
 IsCutAsking Path looks = ⊥
 
--- the looks of one asking that met no fault
+-- the looks of one asking that hit no fault
 abbrev pub IsAsking : IdentityRule → List Look → Type 0
 IsAsking (Fingerprint offset count) looks = AreReads looks offset count
 IsAsking Native looks = looks ≡ []
 IsAsking Path looks = looks ≡ []
 
--- the key where the bytes are as many as are wanted
+-- the key if the bytes are as many as are wanted
 abbrev pub key_if_all : List ℕ → ℕ → List ℕ → Option (List ℕ)
 key_if_all id count bytes = if length bytes == count then Some (fingerprint_key id bytes) else None
 

@@ -26,7 +26,7 @@ key_of_digest id digest = key_by id (codes "fingerprint") (encode_lower digest)
 unfoldable pub fingerprint_key : List ℕ → List ℕ → List ℕ
 fingerprint_key id bytes = key_of_digest id (sha256 bytes)
 
--- what is known without a look into the file: none for a fingerprint, and none where no numbers were told
+-- what is known without a look into the file: none for a fingerprint, and none if no numbers were given
 abbrev pub named_key : List ℕ → IdentityRule → List ℕ → Option (ℕ × ℕ) → Option (List ℕ)
 named_key id (Fingerprint offset count) path numbers = None
 named_key id Native path numbers = option_map (native_key id) numbers
@@ -42,11 +42,11 @@ WantsBytes (Fingerprint offset count) = 0 < count
 WantsBytes Native = Unit {0}
 WantsBytes Path = Unit {0}
 
--- so many bytes from the offset on, where all are there
+-- this many bytes from the offset on, if all are there
 abbrev pub fingerprint_of : ℕ → ℕ → List ℕ → Option (List ℕ)
 fingerprint_of offset count bytes = if nat_le (offset + count) (length bytes) then Some (take count (drop offset bytes)) else None
 
--- of a path, of native numbers where they were told, and of the bytes of a life that are there
+-- of a path, of native numbers if they were given, and of the bytes of a life that are there
 abbrev pub key_of : List ℕ → IdentityRule → List ℕ → Option (ℕ × ℕ) → List ℕ → Option (List ℕ)
 key_of id (Fingerprint offset count) path numbers bytes = option_map (fingerprint_key id) (fingerprint_of offset count bytes)
 key_of id Native path numbers bytes = named_key id Native path numbers

@@ -1,4 +1,4 @@
--- How the bytes of a fingerprint are read: pieces one behind the other, until all came or a read gave none.
+-- How the bytes of a fingerprint are read: pieces one after another, until all came or a read gave none.
 use Rattle.std.specs.Prelude.{◌≡◌, ℕ, ◌+◌, ◌<◌, List, [], ◌∷◌, ◌++◌, length, Option, Some, IfSome}
 use Rattle.outside.specs.declared.history.Look.{Look}
 use Rattle.outside.specs.declared.history.Question.TheVariants.{ReadAt}
@@ -9,7 +9,7 @@ use Rattle.file_identity.specs.declared.fingerprint.Printed.{Printed}
 use Rattle.file_identity.specs.declared.fingerprint.Printed.TheVariants.{Whole, Short}
 use Rattle.file_identity.specs.Asking.{AreCutReads, AreReads, given}
 
--- the tail told these looks in addition
+-- the tail reported these looks in addition
 pub record Adds (told : TailHistory) (looks : List Look) (after : Option TailHistory) : Type 0 where
   pub kept : after ≡ Some (record told { looks = told.looks ++ looks })
   pub shown : AreLooks told.file (last_sight told) looks
@@ -35,7 +35,7 @@ pub record GivesNone (offset count : ℕ) (told : TailHistory) (place : ℕ) (by
   pub bytes_are : given told.file looks ≡ bytes
   pub end : EndsWithNone place looks
 
--- the digest of as many bytes as were wanted, or the place behind the fewer bytes that came
+-- the digest of as many bytes as were wanted, or the place after the fewer bytes that came
 abbrev pub IsPrinted : ℕ → ℕ → Option TailHistory → Printed → Option TailHistory → Type 0
 IsPrinted offset count told (Whole digest) after =
     (bytes : List ℕ) × (length bytes ≡ count) × (digest ≡ sha256 bytes) × IfSome told (λ before. GivesBytes offset count before bytes after)

@@ -20,7 +20,7 @@ pub enum Printed {
     Short(u64),
 }
 
-/// Reads so many bytes from the offset on, in pieces, and keeps none of them.
+/// Reads this many bytes from the offset on, in pieces, and keeps none of them.
 pub fn read_fingerprint<T: Tail>(tail: &mut T, offset: u64, length: u64) -> Result<Printed, Failed>
     requires some { 0 < length }
     requires in_range { IsPlace (offset + length) }

@@ -7,7 +7,7 @@ use wire_base::NoMemory;
 /// Why a file was not asked for its key.
 #[derive(Clone, Copy, Debug, PartialEq, Eq)]
 pub enum IdentityError {
-    /// The key is of inode and device, and the system told none.
+    /// The key is of inode and device, and the system gave none.
     NoNative,
     /// The tail's count of faults rose in this call.
     ReadFault,

@@ -8,7 +8,7 @@ ghost use Rattle.outside.specs.Files.{File, latest, life_of};
 ghost use Rattle.file_identity.specs.Asking.{IsAsking, given_key};
 ghost use Rattle.file_identity.specs.Key.{key_of, WantsBytes};
 
-/// Where the looks of an asking show one life alone, it gave the key of that life, as much of it as was there at the
+/// If the looks of an asking show only one life, it gave the key of that life, as much of it as was there at the
 /// last of them. A law; it computes nothing.
 pub fn an_asking_of_one_life()
     ensures { (id : List ℕ) (rule : IdentityRule) (path : List ℕ) (file : File) (before : Sight) (life : ℕ)

@@ -1,5 +1,5 @@
 -- Which rows are removed (Filebeat reference, filestream input, `clean_removed`; this project's profile): those of an input that cleans
--- them, where no listed file has their key, and the key of each listed file is known; that a file's key is not known keeps all rows.
+-- them, if no listed file has their key, and the key of each listed file is known; that a file's key is not known keeps all rows.
 use Rattle.std.specs.Prelude.{◌≡◌, ◌↔◌, ℕ, false, true, All, Any, IsSome, IsTrue, List, Some}
 use Rattle.std.specs.BTreeSet.{BTreeSet, contains}
 use Rattle.event_tree.specs.declared.input_rule.InputRule.{InputRule}

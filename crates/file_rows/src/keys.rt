@@ -28,7 +28,7 @@ pub fn listed_keys(alloc: Global, listed: &[Listed]) -> Result<BTreeSet<Text>, N
     Ok(keys)
 }
 
-/// Whether the row of this key goes, where the listed files have these keys and some row may go.
+/// Whether the row of this key goes, if the listed files have these keys and some row may go.
 pub fn goes(inputs: &[InputRule], listed: &BTreeSet<Text>, key: &Text) -> bool
     ensures { IsTrue result ↔ IsCleanedBeside inputs.now listed.now key.now }
 {

@@ -1,4 +1,4 @@
--- What a turn collects (this project's profile): what its pass collected in this turn is noted behind all else, in order, but for
+-- What a turn collects (this project's profile): what its pass collected in this turn is noted after all else, in order, but for
 -- a note that memory refused, which is held; one that was held before comes first.
 use Rattle.std.specs.Prelude.{◌≡◌, Bool, true, false, All, Contains, List, ◌++◌, length, count_by}
 use Rattle.outside.specs.Counts.{added_counts}

@@ -1,4 +1,4 @@
--- At most 65,536 keys (this project's profile): the rows that are stored, and the Begins that were told and whose rows are not
+-- At most 65,536 keys (this project's profile): the rows that are stored, and the Begins that were given and whose rows are not
 -- gone, have no more keys together.
 use Rattle.std.specs.Prelude.{◌≡◌, ℕ, ◌≤◌, All, Contains, List, [], ◌∷◌, ◌++◌, length, Some}
 use Rattle.ack_tracker.specs.Tracked.{Tracked}

@@ -15,7 +15,7 @@ abbrev pub are_some : List Note → Bool
 are_some [] = false
 are_some (note ∷ notes) = true
 
--- `pending` tells whether something was noted since the last commit
+-- `pending` says whether something was noted since the last commit
 pub record IsSound (tracked : Tracked) (store : Standing) (held : Option Note) (pending : Bool) : Type 0 where
   pub opening : IsInOrder tracked.opening
   pub in_order : IsInOrder store.rows

@@ -16,7 +16,7 @@ use Rattle.wire_base.specs.declared.row.Op.{Op}
 use Rattle.wire_base.specs.declared.row.Row.{Row}
 use Rattle.keeper.specs.Keeping.{Keeping}
 
--- where the notes are orderly and the store is open, its rows are those over the opening rows and the committed notes
+-- if the notes are orderly and the store is open, its rows are those over the opening rows and the committed notes
 abbrev pub Stores : Tracked → Standing → Type 0
 Stores tracked store = AreOrderly tracked.notes → store.closed ≡ false → AreRowsOver tracked.opening tracked.committed store.rows
 
@@ -34,7 +34,7 @@ pub record AreRowsBetween (opening : List Row) (committed notes : List Note) (ro
 abbrev pub LeadOn : List Row → List Note → List Row → List Op → Type 0
 LeadOn opening notes rows ops = (ops ≡ []) ⊎ ((to : List Row) × AreRowsOver opening notes to × LeadTo rows to ops)
 
--- the updates of a turn, in the words of the store's commit: what each area may hold at any moment of it, and afterwards
+-- the updates of a turn, in terms of the store's commit: what each area may hold at any moment of it, and afterwards
 pub record Commits {D : Type 0} (contents : D → Option (List ℕ)) (images : D → List ℕ → Type 0) (moment : D → ℕ) (images_since : D → ℕ → List ℕ → Type 0)
     (before after : Standing) (opening : List Row) (committed notes : List Note) (a b later_a later_b : D) : Type 0 where
   pub ops : List Op

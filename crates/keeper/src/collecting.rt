@@ -24,7 +24,7 @@ impl Keeper {
         !self.pending && self.held.is_none()
     }
 
-    /// Notes what is held, and then what the box gives, and tells how many notes were collected. After
+    /// Notes what is held, and then what the box gives, and answers how many notes were collected. After
     /// a refusal a note is held.
     pub(crate) fn collect<R: Wait>(
         &mut self,

@@ -29,7 +29,7 @@ use wire_base::{Epoch, Note, Slot};
 /// How many notes a turn collects at most.
 pub const MAX_COLLECTED: u32 = 8_192;
 
-/// The one that notes what is told and collected, and alone writes the registry.
+/// The one that notes what is reported and collected, and is the only one to write the registry.
 #[derive(Drop)]
 pub struct Keeper {
     pub(crate) tracker: Tracker,
@@ -117,7 +117,7 @@ impl Keeper {
         Ok(())
     }
 
-    /// Collects at most 8,192 notes, notes them, and commits once what they and all that was told
+    /// Collects at most 8,192 notes, notes them, and commits once what they and all that was reported
     /// before come to. A note that memory refused is held, and is noted first by the next turn.
     ///
     /// Once a commit has failed the store is closed, and there is no further turn.
@@ -230,7 +230,7 @@ impl Keeper {
     }
 
     /// How far the slot's file is done: its epoch, and the place in bytes up to which all is settled.
-    /// `None` exactly where the slot has no Begin or its row is gone. Takes no memory.
+    /// `None` exactly if the slot has no Begin or its row is gone. Takes no memory.
     pub fn offset(&self, slot: Slot) -> Option<(Epoch, u64)>
         ensures by_the_notes { AreOrderly self.now.tracked.notes →
             result ≡ place_over slot.0 self.now.tracked.notes }

@@ -1,6 +1,6 @@
-//! The keeper: what was told and collected of files, and the rows that are stored of it.
+//! The keeper: what was reported and collected of files, and the rows that are stored of it.
 //!
-//! It is told how files begin, what they are renamed to and when they changed; all else it collects
+//! How files begin, what they are renamed to and when they changed is reported to it; it collects the rest
 //! from the settle box. It notes each to a tracker, in the order in which it comes, and commits what
 //! leads from the stored rows to the tracker's. So what is stored is never ahead of what was
 //! collected, and a turn that stores nothing else has stored all of it.

@@ -1,7 +1,7 @@
 /// What a turn of the keeper came to.
 #[derive(Clone, Copy, Debug, PartialEq, Eq)]
 pub enum KeeperTurn {
-    /// All that was noted is stored; so many notes were collected in this turn.
+    /// All that was noted is stored; this many notes were collected in this turn.
     Kept(u32),
     /// The box was empty, and nothing was left to store.
     Empty,

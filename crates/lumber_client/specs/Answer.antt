@@ -1,4 +1,4 @@
--- What one more byte of a peer is told as (Lumberjack v2; this project's profile for several windows in flight).
+-- What one more byte of a peer is reported as (Lumberjack v2; this project's profile for several windows in flight).
 use Rattle.std.specs.Prelude.{◌≡◌, ℕ, ◌*◌, ◌-◌, ◌^◌, ◌<◌, min, List, ◌++◌, length}
 use Rattle.wire_base.specs.declared.parcel.Parcel.{Parcel}
 use Rattle.lumber_frame.specs.Talk.{in_bytes, out_before}

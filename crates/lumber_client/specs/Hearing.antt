@@ -1,5 +1,5 @@
 -- What a window has of the peer's bytes since it was made or made again (this project's profile of Lumberjack v2): the
--- beginning of an acknowledgement, and whether a fault was told.
+-- beginning of an acknowledgement, and whether a fault was reported.
 use Rattle.std.specs.Prelude.{◌≡◌, ℕ, ◌+◌, ◌-◌, ◌^◌, ◌<◌, min, Bool, false, true, List, [], ◌∷◌, ◌++◌, length}
 use Rattle.lumber_frame.specs.declared.frame.Frame.TheVariants.{Ack}
 use Rattle.lumber_frame.specs.Frame.{frame_bytes}
@@ -14,7 +14,7 @@ pub record Hearing : Type 0 where
   pub asks_oldest : Bool
   -- how many bytes were given; the count saturates at 2^64 - 1
   pub given : ℕ
-  -- a fault was told
+  -- a fault was reported
   pub failed : Bool
 
 abbrev pub nothing_heard : Hearing

@@ -1,5 +1,5 @@
 -- What a window holds (this project's profile of Lumberjack v2): parcels in the order in which they were offered. Those in
--- front were acknowledged and are to be handed out, those behind them are in flight, and the others wait to be begun.
+-- front were acknowledged and are to be handed out, those after them are in flight, and the others wait to be begun.
 use Rattle.std.specs.Prelude.{◌≡◌, ℕ, ◌+◌, ◌-◌, ◌<◌, List, [], ◌∷◌, ◌++◌, length, take, drop, Option, Some, None, Bool, false, true, ◌==◌, if◌then◌else◌}
 use Rattle.wire_base.specs.declared.parcel.Parcel.{Parcel}
 use Rattle.lumber_client.specs.Hearing.{Hearing, nothing_heard}
@@ -9,16 +9,16 @@ pub record Held : Type 0 where
   pub most : ℕ
   pub depth : ℕ
   pub parcels : List Parcel
-  -- how many in front were acknowledged, and how many behind them are in flight
+  -- how many in front were acknowledged, and how many after them are in flight
   pub acknowledged : ℕ
   pub in_flight : ℕ
   -- the counts of the windows that were begun and are not acknowledged in full, the oldest first, and how many parcels of
   -- the oldest one were acknowledged
   pub flights : List ℕ
   pub done : ℕ
-  -- the count of the last window that was acknowledged in full; 0 where none was
+  -- the count of the last window that was acknowledged in full; 0 if none was
   pub last : ℕ
-  -- the next piece to go out, and what is to go out behind it
+  -- the next piece to go out, and what is to go out after it
   pub out : List ℕ
   pub behind : List ℕ
   pub hearing : Hearing
@@ -84,7 +84,7 @@ abbrev pub total : List ℕ → ℕ
 total [] = 0
 total (count ∷ counts) = count + total counts
 
--- so many of the oldest window's parcels were acknowledged, and not all of them
+-- this many of the oldest window's parcels were acknowledged, and not all of them
 abbrev pub IsPart : ℕ → List ℕ → Type 0
 IsPart done [] = done ≡ 0
 IsPart done (count ∷ counts) = done < count
@@ -153,7 +153,7 @@ sent_as w out behind = record {
   hearing = w.hearing;
 }
 
--- the window with these parcels, of which so many in front are acknowledged
+-- the window with these parcels, of which this many in front are acknowledged
 abbrev pub with_parcels : Held → List Parcel → ℕ → Held
 with_parcels w parcels acknowledged = record {
   most = w.most;
@@ -169,6 +169,6 @@ with_parcels w parcels acknowledged = record {
   hearing = w.hearing;
 }
 
--- the window with this parcel behind the others
+-- the window with this parcel after the others
 abbrev pub with_offered : Held → Parcel → Held
 with_offered w parcel = with_parcels w (w.parcels ++ parcel ∷ []) w.acknowledged

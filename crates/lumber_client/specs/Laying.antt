@@ -1,5 +1,5 @@
--- What is laid out to be sent (this project's profile of Lumberjack v2): frames one behind the other in a buffer, a payload
--- that is lent behind them, and the frames that are still to be laid.
+-- What is laid out to be sent (this project's profile of Lumberjack v2): frames one after another in a buffer, a payload
+-- that is lent after them, and the frames that are still to be laid.
 use Rattle.std.specs.Prelude.{◌≡◌, ◌⊎◌, ℕ, suc, ◌+◌, ◌-◌, ◌<◌, ◌≤◌, List, [], ◌∷◌, ◌++◌, length, take, drop, slice_index_or, Option, Some, None, IsSome, nat_lt, if◌then◌else◌}
 use Rattle.lumber_frame.specs.declared.frame.Frame.TheVariants.{Window, Json}
 use Rattle.lumber_frame.specs.Frame.{frame_bytes, json_head_bytes}
@@ -12,12 +12,12 @@ pub record Laying : Type 0 where
   -- the frames that are laid, and how many of their bytes went out
   pub buffer : List ℕ
   pub start : ℕ
-  -- how many bytes went out of the payload that is lent behind them
+  -- how many bytes went out of the payload that is lent after them
   pub lent : Option ℕ
   -- of the present window, how many frames are laid or lent, and how many are left
   pub laid : ℕ
   pub left : ℕ
-  -- the counts of the windows behind it
+  -- the counts of the windows after it
   pub unlaid : List ℕ
   -- how many frames are to be laid
   pub to_lay : ℕ
@@ -30,7 +30,7 @@ abbrev pub windows_left : List ℕ → List (List ℕ) → List ℕ
 windows_left [] payloads = []
 windows_left (count ∷ counts) payloads = window_bytes (take count payloads) ++ windows_left counts (drop count payloads)
 
--- ---- of these payloads, of which so many were begun
+-- ---- of these payloads, of which this many were begun
 
 -- the payloads whose frames are to be laid, and those that wait
 unfoldable pub rest_of : Laying → List (List ℕ) → ℕ → List (List ℕ)
@@ -56,7 +56,7 @@ abbrev pub behind_first : List ℕ → List ℕ → List ℕ → List ℕ
 behind_first [] lent rest = rest
 behind_first (byte ∷ bytes) lent rest = lent ++ rest
 
--- the next piece, what is behind it, and all that is to go out
+-- the next piece, what is after it, and all that is to go out
 unfoldable pub piece_of : Laying → List (List ℕ) → ℕ → List ℕ
 piece_of l payloads begun = first_of (drop l.start l.buffer) (lent_rest l.lent (last_laid l payloads begun))
 
@@ -71,11 +71,11 @@ abbrev pub IsLent : Option ℕ → ℕ → ℕ → List ℕ → Type 0
 IsLent None to_lay begun payload = Unit {0}
 IsLent (Some sent) to_lay begun payload = (to_lay < begun) × (sent < length payload)
 
--- so it is of what is laid of these payloads
+-- the same holds of what is laid of these payloads
 abbrev pub Lends : Laying → List (List ℕ) → ℕ → ℕ → Type 0
 Lends l payloads begun most = IsLent l.lent l.to_lay most (last_laid l payloads begun)
 
--- the frames to be laid are those that are left of the present window and those of the windows behind it
+-- the frames to be laid are those that are left of the present window and those of the windows after it
 abbrev pub IsCounted : Laying → Type 0
 IsCounted l = l.to_lay ≡ l.left + total l.unlaid
 
@@ -117,7 +117,7 @@ with_frame old bytes lent = record {
   to_lay = old.to_lay - 1;
 }
 
--- a frame was laid whole, or its head alone, and the payload is lent
+-- a frame was laid whole, or only its head, and the payload is lent
 abbrev pub LaysFrame : Laying → List ℕ → Laying → Type 0
 LaysFrame old payload new =
     (new ≡ with_frame old (frame_bytes (Json (suc old.laid) payload)) None)
@@ -132,7 +132,7 @@ pub record LaysNext (old : Laying) (payloads : List (List ℕ)) (begun : ℕ) (n
 abbrev pub LaysNoMore : Laying → Type 0
 LaysNoMore l = (IsSome l.lent) ⊎ ((0 < length l.buffer) ⊎ IsIdle l)
 
--- so many bytes of the next piece went out, where this payload may be lent
+-- this many bytes of the next piece went out, if this payload may be lent
 abbrev pub lent_after : Option ℕ → ℕ → List ℕ → Option ℕ
 lent_after None n payload = None
 lent_after (Some sent) n payload = if nat_lt (sent + n) (length payload) then Some (sent + n) else None
@@ -149,7 +149,7 @@ passed_by l n payload = record {
   to_lay = l.to_lay;
 }
 
--- a window of so many frames is to be laid behind the others
+-- a window of this many frames is to be laid after the others
 abbrev pub with_window : Laying → ℕ → Laying
 with_window l count = record {
   depth = l.depth;
@@ -162,7 +162,7 @@ with_window l count = record {
   to_lay = l.to_lay + count;
 }
 
--- frames were laid where nothing was left of those before them, or all stayed as it was
+-- frames were laid if nothing was left of those before them, or all stayed as it was
 pub record Refills (old : Laying) (payloads : List (List ℕ)) (begun : ℕ) (new : Laying) : Type 0 where
   pub same_bytes : pending new payloads begun ≡ pending old payloads begun
   pub something_or_all_out : piece_of new payloads begun ≡ [] → IsIdle new

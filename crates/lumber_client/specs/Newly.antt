@@ -11,7 +11,7 @@ newly_acknowledged Alive = 0
 newly_acknowledged (Acked from to) = to - from
 newly_acknowledged (PeerFault at) = 0
 
--- a fault is told
+-- a fault is reported
 abbrev pub is_fault : Heard → Bool
 is_fault More = false
 is_fault Alive = false

@@ -11,7 +11,7 @@ use Rattle.lumber_frame.specs.PeerFault.{BeginsNoAcknowledgement, HasPeerFault}
 use Rattle.lumber_client.specs.Exchange.{Exchange, windows_of, given_in, acknowledged_in}
 use Rattle.lumber_client.specs.Held.{Held, IsPart, begun_in}
 
--- the first so many windows are acknowledged in full, and the others in flight: of the oldest so many parcels are
+-- this many of the first windows are acknowledged in full, and the others in flight: of the oldest one this many parcels are
 -- acknowledged, and none of the later ones
 pub record AreAnswered (begun : List (List Parcel)) (given : List Answer) (full : ℕ) (flights : List ℕ) (done last : ℕ) : Type 0 where
   pub first : List (List Parcel)
@@ -35,12 +35,12 @@ pub record Hears (e : Exchange) (frame : List ℕ) (window : ℕ) : Type 0 where
   pub begins : BeginsNoAcknowledgement frame → ⊥
   pub asks : frame ≢ [] → asked (windows_of e.begun) (answers (windows_of e.begun) e.talk [] 0 numbers) (out_before e.talk (6 * length numbers)) ≡ window
 
--- and where a fault was told, the talk has one
+-- and if a fault was reported, the talk has one
 abbrev pub HearsWith : Bool → Exchange → List ℕ → ℕ → Type 0
 HearsWith false e frame window = Hears e frame window
 HearsWith true e frame window = HasPeerFault e.talk
 
--- the number of the window that a frame asks of, where so many are acknowledged in full
+-- the number of the window that a frame asks of, if this many are acknowledged in full
 abbrev pub window_asked : Bool → ℕ → ℕ
 window_asked asks_oldest full = if asks_oldest then suc full else full
 
@@ -49,7 +49,7 @@ pub record StandsFor (w : Held) (e : Exchange) : Type 0 where
   pub each : AllByRecursion IsWindow (windows_of e.begun)
   pub sent : out_bytes e.talk ++ (w.out ++ w.behind) ≡ flat_map window_bytes (windows_of e.begun)
   pub nothing_behind : w.out ≡ [] → w.behind ≡ []
-  -- at most so many of them are not acknowledged in full
+  -- at most this many of them are not acknowledged in full
   pub full : ℕ
   pub answered : AreAnswered e.begun (given_in e) full w.flights w.done w.last
   pub few : length w.flights ≤ w.depth

@@ -5,7 +5,7 @@ use Rattle.lumber_client.specs.declared.heard.Heard.TheVariants.{More, Alive, Ac
 use Rattle.lumber_client.specs.Hearing.{Hearing}
 use Rattle.lumber_client.specs.Held.{Held, acknowledged_to, oldest_of, with_hearing}
 
--- the count of the oldest window in flight, where the frame asks of it
+-- the count of the oldest window in flight, if the frame asks of it
 abbrev pub asked_in : Held → Option ℕ
 asked_in w = if w.hearing.asks_oldest then oldest_of w.flights else None
 
@@ -38,7 +38,7 @@ pub record IsTooHigh (w : Held) (number : ℕ) (new : Held) : Type 0 where
   pub above : count_asked w < number
   pub is : new ≡ with_hearing w (now_failed w.hearing)
 
--- the answer to a whole acknowledgement of this number, whose last byte stands at this place
+-- the answer to a whole acknowledgement of this number, whose last byte is at this place
 abbrev pub Answers : Held → ℕ → ℕ → Heard → Held → Type 0
 Answers w number place More new = ⊥
 Answers w number place Alive new = IsOld w number new

@@ -1,4 +1,4 @@
-/// What one more byte of a peer tells.
+/// What one more byte of a peer says.
 #[derive(Clone, Copy, Debug, PartialEq, Eq)]
 pub enum Heard {
     /// The acknowledgement is not whole yet.

@@ -114,7 +114,7 @@ fn asked(filled: usize, kept: bool, now: bool) -> bool
     if filled == 0 { now } else { kept }
 }
 
-/// Whether the byte may stand behind so many bytes of an acknowledgement.
+/// Whether the byte may follow this many bytes of an acknowledgement.
 fn may_stand(filled: usize, byte: u8) -> bool
     ensures { IsTrue result ↔ ((filled ≡ 0 → byte ≡ 0x32) × (filled ≡ 1 → byte ≡ 0x41)) }
 {

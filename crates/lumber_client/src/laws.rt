@@ -14,7 +14,7 @@ pub fn acknowledged_is_of_the_talk()
         Acknowledges e.talk (payloads_of (acknowledged_in e)) }
 {}
 
-/// Received bytes may be given one by one or many at once: a window stands for the one talk where
+/// Received bytes may be given one by one or many at once: a window stands for the one talk if
 /// it stands for the other, and both talks acknowledge the same. A law; it computes nothing.
 pub fn received_pieces_join()
     ensures window { (window : Held) (e : Exchange) (talk : List Piece) (front back : List ℕ) →
@@ -28,7 +28,7 @@ pub fn received_pieces_join()
         HasPeerFault (talk ++ In (front ++ back) ∷ []) }
 {}
 
-/// Behind a peer's fault nothing counts: whatever is sent and received afterwards, the talk
+/// After a peer's fault nothing counts: whatever is sent and received afterwards, the talk
 /// acknowledges the same. A law; it computes nothing.
 pub fn nothing_counts_behind_a_fault()
     ensures { (talk more : List Piece) (payloads : List (List ℕ)) → HasPeerFault talk →

@@ -2,7 +2,7 @@
 //!
 //! A `Window` holds parcels on their way to a peer. They are offered, begun in windows of
 //! Lumberjack v2 and sent piece by piece; several windows may be in flight. The peer's bytes are
-//! given to it one by one, and it tells of each whether the acknowledgement goes on, is a sign of
+//! given to it one by one, and it says of each whether the acknowledgement goes on, is a sign of
 //! life, acknowledges more, or is a fault. What is acknowledged is handed out in order, each parcel
 //! once. After a failure the window is made again, and what was not acknowledged waits in its old
 //! order.
@@ -14,7 +14,7 @@
 //! nothing of it.
 //!
 //! All memory is taken by `Window::new`: room for the parcels of the windows in flight and of one
-//! more, and a buffer of 128 KiB in which small frames are laid one behind the other, so that one
+//! more, and a buffer of 128 KiB in which small frames are laid one after another, so that one
 //! sending carries many. No payload is copied but into that buffer. Nothing here sends or receives,
 //! waits or reconnects.
 #![tactic(auto)]

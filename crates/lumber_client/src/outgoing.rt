@@ -11,10 +11,10 @@ use std::collections::VecDeque;
 use std::marker::Model;
 use wire_base::{NoMemory, Parcel};
 
-/// How many bytes of frames are laid one behind the other, so that one sending carries many.
+/// How many bytes of frames are laid one after another, so that one sending carries many.
 const LAID_BYTES: usize = 131_072;
 
-/// How many bytes stand in front of a payload.
+/// How many bytes come before a payload.
 const JSON_HEAD_BYTES: usize = 10;
 
 /// How many bytes a window's frame has.
@@ -31,7 +31,7 @@ pub(crate) struct Outgoing {
     /// Of the window that is laid, how many frames are, and how many are left.
     laid: u32,
     left: u32,
-    /// The counts of the windows behind it.
+    /// The counts of the windows after it.
     unlaid: VecDeque<u32>,
     /// How many frames are left in all of them.
     to_lay: usize,
@@ -102,7 +102,7 @@ impl Outgoing {
         }
     }
 
-    /// So many bytes of the next piece went out.
+    /// This many bytes of the next piece went out.
     pub(crate) fn pass(&mut self, n: usize, parcels: &VecDeque<Parcel>, begun: usize)
         requires begun { begun ≤ deque_len parcels.now }
         requires range { All IsParcel parcels.now.items }
@@ -121,7 +121,7 @@ impl Outgoing {
         self.lent = (sent < size).then_some(sent);
     }
 
-    /// Puts a window of so many parcels behind what is to go out.
+    /// Puts a window of this many parcels after what is to go out.
     pub(crate) fn add(&mut self, count: u32)
         requires room { length self.old.unlaid < self.old.depth }
         requires few { self.old.to_lay + count < 2 ^ 64 }
@@ -131,7 +131,7 @@ impl Outgoing {
         self.to_lay += count as usize;
     }
 
-    /// Lays frames where nothing is left of those that were laid.
+    /// Lays frames if nothing is left of those that were laid.
     pub(crate) fn refill(&mut self, parcels: &VecDeque<Parcel>, begun: usize)
         requires begun { begun ≤ deque_len parcels.now }
         requires to_lay { self.old.to_lay ≤ begun }
@@ -167,7 +167,7 @@ impl Outgoing {
         self.start = 0;
     }
 
-    /// Lays one more frame. False where none is left, where it has no room, and behind a payload
+    /// Lays one more frame. False if none is left, if it has no room, and after a payload
     /// that is lent.
     fn lay_next(&mut self, parcels: &VecDeque<Parcel>, begun: usize) -> bool
         requires begun { begun ≤ deque_len parcels.now }
@@ -209,7 +209,7 @@ impl Outgoing {
         }
     }
 
-    /// Lays the next frame of the window, or its head alone where the payload is larger than the
+    /// Lays the next frame of the window, or only its head if the payload is larger than the
     /// buffer.
     fn lay_frame(&mut self, payload: &[u8]) -> bool
         requires left { 0 < self.old.left }

@@ -96,7 +96,7 @@ impl Window {
         self.incoming.take(byte, oldest)
     }
 
-    /// What a whole acknowledgement tells, the last byte of which stands at this place.
+    /// What a whole acknowledgement says, the last byte of which is at this place.
     pub(crate) fn answer(&mut self, number: u32, place: u64) -> Heard
         requires { self.old.out ≡ [] }
         ensures { Answers self.old number place result self.new }
@@ -124,7 +124,7 @@ impl Window {
         self.flights.front().copied()
     }
 
-    /// The count of the oldest window in flight, where the frame asks of it.
+    /// The count of the oldest window in flight, if the frame asks of it.
     fn asked(&self) -> Option<u32>
         ensures { result ≡ asked_in self.now }
     {

@@ -116,14 +116,14 @@ impl Window {
         self.acknowledged > 0
     }
 
-    /// Whether a fault of the peer was told since the window was made or made again.
+    /// Whether a fault of the peer was reported since the window was made or made again.
     pub fn has_failed(&self) -> bool
         ensures { result ≡ self.now.hearing.failed }
     {
         self.incoming.failed()
     }
 
-    /// Puts a parcel behind those that wait to be begun. Fewer than `most` wait, and nothing that
+    /// Puts a parcel after those that wait to be begun. Fewer than `most` wait, and nothing that
     /// is acknowledged waits for `settled`.
     pub fn offer(&mut self, parcel: Parcel)
         requires range { IsParcel parcel }
@@ -150,8 +150,8 @@ impl Window {
         self.begin_next();
     }
 
-    /// The next piece to go out; empty exactly where all that was begun is out. Frames stand in it
-    /// one behind the other, and a payload that is larger than the buffer is a piece of its own.
+    /// The next piece to go out; empty exactly if all that was begun is out. Frames are in it
+    /// one after another, and a payload that is larger than the buffer is a piece of its own.
     pub fn out(&self) -> &[u8]
         ensures piece { result.now ≡ self.now.out }
         ensures empty_only_where_all_is_out { result.now ≡ [] → self.now.behind ≡ [] }
@@ -171,7 +171,7 @@ impl Window {
         self.pass(n);
     }
 
-    /// Takes the next byte that the peer gave. All that was begun is out, and no fault was told
+    /// Takes the next byte that the peer gave. All that was begun is out, and no fault was reported
     /// since the window was made or made again.
     pub fn got(&mut self, byte: u8) -> Heard
         requires all_is_out { self.old.out ≡ [] }
@@ -193,7 +193,7 @@ impl Window {
         }
     }
 
-    /// Hands out the next parcel that is acknowledged, in order, each once; `None` exactly where
+    /// Hands out the next parcel that is acknowledged, in order, each once; `None` exactly if
     /// none is left.
     pub fn settled(&mut self) -> Option<Parcel>
         ensures first { IfSome result (λ parcel. self.old.parcels ≡ parcel ∷ self.new.parcels) }

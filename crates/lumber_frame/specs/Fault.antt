@@ -1,5 +1,5 @@
 -- Which bytes begin no frame however they go on, and at which place that shows (this project's profile of Lumberjack v2:
--- windows, JSON frames and acknowledgements alone, and payloads of at most `MAX_PAYLOAD` bytes).
+-- windows, JSON frames and acknowledgements only, and payloads of at most `MAX_PAYLOAD` bytes).
 use Rattle.std.specs.Prelude.{◌≡◌, ◌≢◌, ◌⊎◌, ℕ, ◌<◌, ◌≤◌, List, length, slice_index, slice_range}
 use Rattle.std.specs.Int.{w32, from_be_bytes}
 use Rattle.wire_base.specs.declared.parcel.TheConstants.{MAX_PAYLOAD}

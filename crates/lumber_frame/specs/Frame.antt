@@ -14,7 +14,7 @@ IsFrame (Window count) = count < 2 ^ 32
 IsFrame (Json sequence payload) = (sequence < 2 ^ 32) × (length payload ≤ MAX_PAYLOAD)
 IsFrame (Ack sequence) = sequence < 2 ^ 32
 
--- what stands in front of a payload of this length
+-- what comes before a payload of this length
 abbrev pub json_head_bytes : ℕ → ℕ → List ℕ
 json_head_bytes sequence size = 0x32 ∷ 0x4a ∷ (to_be_bytes w32 sequence ++ to_be_bytes w32 size)
 

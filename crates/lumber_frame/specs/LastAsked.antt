@@ -1,4 +1,4 @@
--- What a talk acknowledges where each acknowledgement asks of the last window that was wholly out before its first byte
+-- What a talk acknowledges if each acknowledgement asks of the last window that was wholly out before its first byte
 -- came (Lumberjack v2, a client with one window in flight). With several in flight `Acknowledged.antt` and
 -- `PeerFault.antt` hold in its place; a law says where both are the same.
 use Rattle.std.specs.Prelude.{◌≡◌, ◌⊎◌, ℕ, ◌+◌, ◌*◌, ◌<◌, List, [], ◌∷◌, length, drop, slice_index, nat_le, if◌then◌else◌}
@@ -27,7 +27,7 @@ pub record IsAboveLastCount (windows : List (List (List ℕ))) (talk : List Piec
   pub there : index < length (acknowledgements (in_bytes talk))
   pub above : count_at windows (whole_within windows (out_before talk (6 * index))) < slice_index (acknowledgements (in_bytes talk)) index
 
--- an acknowledgement has a number above the count, or behind the last of them stand bytes that begin none
+-- an acknowledgement has a number above the count, or bytes that begin none come after the last of them
 pub record HasFaultByLast (talk : List Piece) : Type 0 where
   pub windows : List (List (List ℕ))
   pub sent : AreWindows (out_bytes talk) windows

@@ -1,6 +1,6 @@
 -- A peer's fault of a talk (this project's profile of Lumberjack v2). What is received is read as frames from the first
 -- byte on. A frame that is no acknowledgement is a fault, which shows by one of its first two bytes as it comes; so is a
--- number above the count of the window that the acknowledgement asks of, or above 0 where no window was wholly out. The
+-- number above the count of the window that the acknowledgement asks of, or above 0 if no window was wholly out. The
 -- beginning of an acknowledgement is no fault.
 use Rattle.std.specs.Prelude.{◌≡◌, ◌≢◌, ◌⊎◌, ℕ, ◌*◌, ◌<◌, ◌≤◌, List, [], length, take, drop, slice_index}
 use Rattle.wire_base.specs.declared.talk.Piece.{Piece}
@@ -21,7 +21,7 @@ pub record IsAboveCount (windows : List (List (List ℕ))) (talk : List Piece) (
   pub above : count_at windows (asked windows (answers windows talk [] 0 (take index (acknowledgements (in_bytes talk)))) (out_before talk (6 * index)))
       < slice_index (acknowledgements (in_bytes talk)) index
 
--- an acknowledgement has a number above the count, or behind the last of them stand bytes that begin none
+-- an acknowledgement has a number above the count, or bytes that begin none come after the last of them
 pub record HasPeerFault (talk : List Piece) : Type 0 where
   pub windows : List (List (List ℕ))
   pub sent : AreWindows (out_bytes talk) windows

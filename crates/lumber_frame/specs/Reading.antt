@@ -18,7 +18,7 @@ Reads bytes (Whole frame used) = BeginsWithFrame bytes (frame_of frame) used
 Reads bytes (Bad at) = IsBadAt bytes at
 Reads bytes Short = IsShort bytes
 
--- where a whole frame was read, this holds of it and of how many bytes it took
+-- if a whole frame was read, this holds of it and of how many bytes it took
 abbrev pub IfWhole : FrameRead → (FrameView → ℕ → Type 0) → Type 0
 IfWhole (Whole frame used) P = P frame used
 IfWhole (Bad at) P = Unit {0}

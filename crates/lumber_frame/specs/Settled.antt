@@ -9,7 +9,7 @@ use Rattle.lumber_frame.specs.Talk.{out_bytes, in_bytes}
 use Rattle.lumber_frame.specs.Window.{IsWindow, window_bytes}
 use Rattle.lumber_frame.specs.Acknowledged.{answers, count_at, greatest}
 
--- the bytes of acknowledgements of these numbers, one behind the other
+-- the bytes of acknowledgements of these numbers, one after another
 abbrev pub ack_bytes : List ℕ → List ℕ
 ack_bytes numbers = flat_map (λ number. frame_bytes (Ack number)) numbers
 

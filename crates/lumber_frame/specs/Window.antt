@@ -15,7 +15,7 @@ numbered sequence (payload ∷ payloads) = frame_bytes (Json sequence payload) +
 abbrev pub window_bytes : List (List ℕ) → List ℕ
 window_bytes payloads = frame_bytes (Window (length payloads)) ++ numbered 1 payloads
 
--- the bytes are the JSON frames of so many payloads, numbered from `sequence` on, and then the rest
+-- the bytes are the JSON frames of this many payloads, numbered from `sequence` on, and then the rest
 pub record IsNumbered (sequence count : ℕ) (bytes : List ℕ) (payloads : List (List ℕ)) (rest : List ℕ) : Type 0 where
   pub counted : length payloads ≡ count
   pub each : AllByRecursion (λ payload. length payload ≤ MAX_PAYLOAD) payloads

@@ -54,7 +54,7 @@ fn greatest_numbers(
     Ok(mosts)
 }
 
-/// Of so many windows, the number of the first that was not acknowledged in full, or of the last.
+/// Of this many windows, the number of the first that was not acknowledged in full, or of the last.
 fn oldest_open(windows: &[Vec<Blob>], mosts: &[u32], whole: usize) -> usize
     requires whole { whole ≤ length windows.now }
     requires each { length mosts.now ≡ length windows.now + 1 }
@@ -104,7 +104,7 @@ fn whole_within(windows: &[Vec<Blob>], out: usize) -> usize
     whole
 }
 
-/// How many bytes are left behind the window's, where so many are there.
+/// How many bytes are left after the window's, if this many are there.
 fn after_window(window: &[Blob], out: usize) -> Option<usize>
     ensures { SomeIff result (length (window_bytes window.now) ≤ out)
         (out - length (window_bytes window.now)) }
@@ -123,7 +123,7 @@ fn after_window(window: &[Blob], out: usize) -> Option<usize>
     Some(left)
 }
 
-/// The count of the window of this number, from 1 on; 0 where there is none.
+/// The count of the window of this number, from 1 on; 0 if there is none.
 fn count_at(windows: &[Vec<Blob>], number: usize) -> usize
     ensures { result ≡ count_at (map (λ w. w.items) windows.now) number }
 {

@@ -40,7 +40,7 @@ pub fn one_reading()
 {}
 
 /// An acknowledgement asks of the oldest window that was wholly out and that was not acknowledged in full, or of the last
-/// that was out where each was. A law; it computes nothing.
+/// that was out if each was. A law; it computes nothing.
 pub fn the_oldest_is_asked()
     ensures within { (windows : List (List (List ℕ))) (given : List Answer) (out : ℕ) →
         asked windows given out ≤ whole_within windows out }
@@ -53,7 +53,7 @@ pub fn the_oldest_is_asked()
 {}
 
 /// In a talk with one window in flight an acknowledgement asks of the last window that was wholly out: the talk
-/// acknowledges the same, and has the same faults, as where each asks of that one. A law; it computes nothing.
+/// acknowledges the same, and has the same faults, as if each asked of that one. A law; it computes nothing.
 pub fn one_in_flight_asks_the_last()
     ensures acknowledged { (talk : List Piece) (payloads : List (List ℕ)) → HasOneInFlight talk →
         (Acknowledges talk payloads ↔ AcknowledgesByLast talk payloads) }
@@ -61,7 +61,7 @@ pub fn one_in_flight_asks_the_last()
         (HasPeerFault talk ↔ HasFaultByLast talk) }
 {}
 
-/// One window is in flight in a talk of nothing, and where one more window is sent and any bytes are received behind a
+/// One window is in flight in a talk of nothing, and if one more window is sent and any bytes are received after a
 /// settled talk that had one in flight. A law; it computes nothing.
 pub fn one_window_at_a_time()
     ensures nothing { HasOneInFlight [] }
@@ -110,7 +110,7 @@ pub fn settled_stays_acknowledged()
         Acknowledges (talk ++ more) (flat_map (λ window. window) windows ++ later) }
 {}
 
-/// Bytes begin no acknowledgement exactly where there is none that they begin, however they go on. A law; it computes
+/// Bytes begin no acknowledgement exactly if there is none that they begin, however they go on. A law; it computes
 /// nothing.
 pub fn no_acknowledgement_begins()
     ensures none { (bytes more : List ℕ) (number used : ℕ) → BeginsNoAcknowledgement bytes →
@@ -121,7 +121,7 @@ pub fn no_acknowledgement_begins()
         BeginsNoAcknowledgement bytes }
 {}
 
-/// A client that waits for the acknowledgement of one more window meets a peer's fault where, behind acknowledgements
+/// A client that waits for the acknowledgement of one more window hits a peer's fault if, after acknowledgements
 /// none above the window's count, there come bytes that begin no acknowledgement, or an acknowledgement of a number above
 /// the count, whatever follows it. A law; it computes nothing.
 pub fn a_fault_is_met()
@@ -143,7 +143,7 @@ pub fn a_fault_is_met()
 {}
 
 /// A settled talk has no peer's fault, and neither has one that goes on by one more window and by acknowledgements none
-/// above its count, behind which another may have begun. A law; it computes nothing.
+/// above its count, after which another may have begun. A law; it computes nothing.
 pub fn no_fault_is_met()
     ensures settled { (talk : List Piece) (windows : List (List (List ℕ))) →
         IsSettled talk windows →
@@ -158,7 +158,7 @@ pub fn no_fault_is_met()
         ¬ (HasPeerFault ((talk ++ sent) ++ heard)) }
 {}
 
-/// One more window behind a settled talk is not acknowledged in full by acknowledgements below its count, behind which
+/// One more window after a settled talk is not acknowledged in full by acknowledgements below its count, after which
 /// another may have begun. A law; it computes nothing.
 pub fn a_window_is_unanswered()
     ensures { (talk sent heard : List Piece) (windows : List (List (List ℕ)))

@@ -9,7 +9,7 @@ ghost use Rattle.lumber_frame.specs.Reading.{Reads, IsShort, IfWhole, IsWholeOf}
 use crate::frame::{ACK, FrameRead, FrameView, JSON, VERSION, WINDOW};
 use wire_base::MAX_PAYLOAD;
 
-/// The frame that the bytes begin with, the fault that they begin with, or `Short` where there is
+/// The frame that the bytes begin with, the fault that they begin with, or `Short` if there is
 /// neither yet. Takes no memory; the payload is not looked into.
 pub fn read_frame<'a>(bytes: &'a [u8]) -> FrameRead<'a>
     ensures exact { Reads bytes.now result }
@@ -66,7 +66,7 @@ fn read_json<'a>(bytes: &'a [u8]) -> FrameRead<'a>
     }
 }
 
-/// The number in the four bytes from `at` on, the highest first, where they are there.
+/// The number in the four bytes from `at` on, the highest first, if they are there.
 fn number_at(bytes: &[u8], at: usize) -> Option<u32>
     requires { at + 4 < 2 ^ 64 }
     ensures { SomeIff result (at + 4 ≤ length bytes.now)

@@ -6,7 +6,7 @@ use Rattle.pass_sums.specs.Weight.{AsOften}
 use Rattle.mem_queue.specs.declared.entry.Entry.{Entry}
 use Rattle.mem_queue.specs.Entries.{numbered}
 
--- all that entered stands in one row, numbered from 0 in the order of entry; a front of it was taken, and `items` is the rest
+-- all that entered is in one row, numbered from 0 in the order of entry; a front of it was taken, and `items` is the rest
 pub record IsConserved (put taken : List Entry) (items : List Parcel) : Type 0 where
   pub gone : List Parcel
   pub all_put : AsOften put (numbered 0 (gone ++ items))

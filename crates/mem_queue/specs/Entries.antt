@@ -19,6 +19,6 @@ AllBefore number entries = All (λ e. e.number < number) entries
 abbrev pub parcels : List Entry → List Parcel
 parcels entries = map (λ e. e.parcel) entries
 
--- 1 where the entry has this number
+-- 1 if the entry has this number
 abbrev pub has_number : ℕ → Entry → ℕ
 has_number number e = if number == e.number then 1 else 0

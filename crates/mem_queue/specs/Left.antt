@@ -4,7 +4,7 @@ use Rattle.crossbeam_queue.specs.Passes.{Pass, view}
 use Rattle.wire_base.specs.declared.parcel.Parcel.{Parcel}
 use Rattle.mem_queue.specs.declared.rule.Hand.{Hand}
 
--- the parcel that was taken ahead, and behind it what the pass knows to be left in the queue
+-- the parcel that was taken ahead, and after it what the pass knows to be left in the queue
 abbrev pub left_over : Option Parcel → Pass Parcel Hand → List Parcel
 left_over None pass = []
 left_over (Some next) pass = next ∷ unwrap_or (view pass).rest []

@@ -1,4 +1,4 @@
--- What the steps of the queue tell the pass that makes them (this project's profile).
+-- What the steps of the queue report to the pass that makes them (this project's profile).
 use Rattle.std.specs.Prelude.{◌≡◌, ℕ, List, [], ◌∷◌, ◌++◌, All, Some, None}
 use Rattle.wire_base.specs.declared.parcel.Parcel.{Parcel}
 use Rattle.wire_base.specs.Ranges.{IsParcel}
@@ -20,7 +20,7 @@ pub record TakesFirst (v : Hand) (parcel : Parcel) (w : Hand) : Type 0 where
   pub range : IsParcel parcel
   pub is : w ≡ hand v.puts v.takes v.put (v.taken ++ entry number parcel ∷ []) None
 
--- the first take of a closed queue tells exactly what is left
+-- the first take of a closed queue reports exactly what is left
 pub record EndsAt (v : Hand) (parcel : Parcel) (w : Hand) : Type 0 where
   pub rest : List Parcel
   pub conserved : IsConserved v.put v.taken (parcel ∷ rest)

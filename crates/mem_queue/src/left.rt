@@ -12,7 +12,7 @@ use wire_base::Parcel;
 pub struct Left {
     pub(crate) ring: Ring,
     pub(crate) pass: Pass<Parcel, Hand>,
-    /// Taken ahead: only as it takes a parcel does a pass learn exactly what is behind it.
+    /// Taken ahead: only as it takes a parcel does a pass learn exactly what follows it.
     pub(crate) next: Option<Parcel>,
 }
 
@@ -32,7 +32,7 @@ impl Model for Left {
 }
 
 impl Left {
-    /// The first parcel that is left. `None` exactly where nothing is left. Takes no memory.
+    /// The first parcel that is left. `None` exactly if nothing is left. Takes no memory.
     pub fn next<R: Wait>(&mut self, rt: &R) -> Option<Parcel>
         ensures first { IfSome result (λ parcel. self.old ≡ parcel ∷ self.new) }
         ensures range { IfSome result (λ parcel. IsParcel parcel) }

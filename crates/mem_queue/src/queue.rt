@@ -48,7 +48,7 @@ impl EventQueue {
         ))
     }
 
-    /// Puts the parcel behind all others. It comes back only where the queue was full at a step of
+    /// Puts the parcel after all others. It comes back only if the queue was full at a step of
     /// this call.
     pub fn put<R: Wait>(&self, rt: &R, pass: &mut PutPass, parcel: Parcel) -> Result<(), Parcel>
         requires of_this_queue { pass.old.queue ≡ self.now.id }
@@ -61,7 +61,7 @@ impl EventQueue {
         self.ring.push_as::<Puts, R>(rt, &mut pass.pass, parcel)
     }
 
-    /// Takes the first parcel. `None` only where the queue was empty at a step of this call.
+    /// Takes the first parcel. `None` only if the queue was empty at a step of this call.
     pub fn take<R: Wait>(&self, rt: &R, pass: &mut TakePass) -> Option<Parcel>
         requires { pass.old.queue ≡ self.now.id }
         ensures taken_first { IfSome result (λ parcel. (number : ℕ) × AllBefore number pass.old.entries ×

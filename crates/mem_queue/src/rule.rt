@@ -1,4 +1,4 @@
-//! The rule of the queue, and what each step tells. These types are for the proofs alone.
+//! The rule of the queue, and what each step reports. These types are for the proofs only.
 use crate::Entry;
 use crossbeam_queue::RuledArrayQueue;
 use crossbeam_queue::protocol::{Join, Lesson, Outcome, Protocol, Split};

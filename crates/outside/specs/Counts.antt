@@ -1,8 +1,8 @@
 -- Counts of an object of the outside, such as its faults (this project's profile). A count is a 64-bit number that
--- never falls; where one more does not fit, it saturates.
+-- never falls; if one more does not fit, it saturates.
 use Rattle.std.specs.Prelude.{ℕ, ◌+◌, ◌-◌, ◌^◌, ◌<◌, ◌≤◌, ◌⊎◌, min, max}
 
--- the count stands at the end of its type
+-- the count is at the end of its type
 abbrev pub IsAtEnd : ℕ → Type 0
 IsAtEnd count = 2 ^ 64 - 1 ≤ count
 

@@ -1,4 +1,4 @@
--- What the calls of a disk tell of its bytes (std's files, and this project's profile).
+-- What the calls of a disk show of its bytes (std's files, and this project's profile).
 use Rattle.std.specs.Prelude.{◌≡◌, ℕ, ◌+◌, ◌-◌, ◌<◌, ◌≤◌, List, [], ◌∷◌, ◌++◌, length, take, drop, replicate, Option, Some, None, IsSome, Result, IfOk, OnOk, IfSome}
 use Rattle.outside.specs.declared.failed.Failed.{Failed}
 
@@ -20,7 +20,7 @@ written old at [] = old
 written old at (byte ∷ bytes) =
     take at (old ++ replicate (at - length old) 0) ++ byte ∷ bytes ++ drop (at + length (byte ∷ bytes)) old
 
--- a write that fails may leave anything that is an image; told stays told
+-- a write that fails may leave anything that is an image; what is known stays known
 abbrev pub Written : {T : Type 0} → Option (List ℕ) → ℕ → List ℕ → Result T Failed → Option (List ℕ) → Type 0
 Written None at bytes result after = after ≡ None
 Written (Some before) at bytes result after = IsSome after × OnOk result (after ≡ Some (written before at bytes))

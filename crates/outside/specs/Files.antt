@@ -7,12 +7,12 @@ use Rattle.outside.specs.declared.history.Look.{Look}
 use Rattle.outside.specs.declared.history.Shown.{Shown}
 use Rattle.wire_base.specs.Ranges.{IsPlace}
 
--- inode and device where the system tells them, and the lives in their order, each told whole from the start
+-- inode and device if the system gives them, and the lives in their order, each reported whole from the start
 pub record File : Type 0 where
   pub numbers : Option (ℕ × ℕ)
   pub lives : List (List ℕ)
 
--- a life's bytes, and none where the file has no such life
+-- a life's bytes, and none if the file has no such life
 abbrev pub life_of : File → ℕ → List ℕ
 life_of file life = slice_index_or file.lives life []
 

@@ -1,4 +1,4 @@
--- What the calls of a folder tell: the list of its listings, openings and closings in their order (Filebeat reference,
+-- What the calls of a folder show: the list of its listings, openings and closings in their order (Filebeat reference,
 -- filestream input; this project's profile).
 use Rattle.std.specs.Prelude.{◌≡◌, ◌≢◌, ◌⊎◌, ℕ, List, [], ◌∷◌, ◌++◌, length, map, All, Contains, slice_get, Option, Some, None, IfSome, IfOk, Result, Ok, Err, MatchResult, MatchOption, Vec}
 use Rattle.std.specs.List.{AllByRecursion}
@@ -27,7 +27,7 @@ pub data Event : Type 0 where
   -- the closing of the tail of an opening, by that opening's place in the list, with its looks and its count of faults
   Closed : ℕ → List Look → ℕ → Event
 
--- the files, told whole from the start, and what was done so far
+-- the files, reported whole from the start, and what was done so far
 pub record FolderHistory : Type 0 where
   pub files : List File
   pub events : List Event
@@ -62,7 +62,7 @@ pub record ListsFiles (told : FolderHistory) (states : List Sight) (present : Li
   pub shows : ShowsPresent told.files states present root depth shown
   pub kept : after ≡ Some (with_event told (Listed root depth shown))
 
--- a listing that failed stands in the list, also where memory was out, until the count of faults stands at its end
+-- a listing that failed is in the list, also if it was out of memory, until the count of faults is at its end
 abbrev pub KeepsFailure : FolderHistory → Option FolderHistory → ℕ → Type 0
 KeepsFailure told after faults = (after ≡ Some (with_event told ListingFailed)) ⊎ (IsAtEnd faults × (after ≡ Some told))
 
@@ -93,7 +93,7 @@ abbrev pub KeepsError : FolderHistory → List ℕ → FolderError → Option Fo
 KeepsError told path Failed after = after ≡ Some (with_event told (OpeningFailed path))
 KeepsError told path NoMemory after = after ≡ Some told
 
--- a tail of a folder that tells nothing tells nothing
+-- a tail of a folder that reports nothing reports nothing
 abbrev pub OpensUntold : {T : Type 0} → (T → Option TailHistory) → Result (Option T) FolderError → Type 0
 OpensUntold tail_told result = IfOk result (λ found. IfSome found (λ tail. tail_told tail ≡ None))
 
@@ -105,11 +105,11 @@ TellsOpening tail_told tail_numbers (Some told) states present path result after
     (λ tail. OpensFile tail_told tail_numbers told states present path tail after))
     (λ error. KeepsError told path error after)
 
--- an opened tail has met no fault yet
+-- an opened tail has hit no fault yet
 abbrev pub StartsFresh : {T : Type 0} → (T → ℕ) → Result (Option T) FolderError → Type 0
 StartsFresh tail_faults result = IfOk result (λ found. IfSome found (λ tail. tail_faults tail ≡ 0))
 
--- the closing stands in the list with the tail's looks; of a tail that tells nothing nothing does
+-- the closing is in the list with the tail's looks; of a tail that reports nothing, nothing is
 abbrev pub TellsClosing : Option FolderHistory → Option TailHistory → ℕ → Option FolderHistory → Type 0
 TellsClosing None tail faults after = after ≡ None
 TellsClosing (Some told) None faults after = after ≡ Some told

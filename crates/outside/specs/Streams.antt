@@ -9,13 +9,13 @@ pub record GivesFront (left into : List ℕ) (count : ℕ) (after : Option (List
   pub rest : after ≡ Some (drop count left)
   pub zero_only_at_the_end : 0 < length into → count ≡ 0 → left ≡ []
 
--- a read of a source that tells what is left; one that fails takes nothing
+-- a read of a source that reports what is left; one that fails takes nothing
 abbrev pub ReadsOn : Option (List ℕ) → List ℕ → Result ℕ Failed → Option (List ℕ) → Type 0
 ReadsOn None into result after = after ≡ None
 ReadsOn (Some left) into result after =
     MatchResult result (λ count. GivesFront left into count after) (λ _. after ≡ Some left)
 
--- a write to a sink that tells what it holds: the front that was taken stands at the end; one that fails adds nothing
+-- a write to a sink that reports what it holds: the front that was taken is at the end; one that fails adds nothing
 abbrev pub WritesOn : Option (List ℕ) → List ℕ → Result ℕ Failed → Option (List ℕ) → Type 0
 WritesOn None piece result after = after ≡ None
 WritesOn (Some written) piece result after =

@@ -1,4 +1,4 @@
--- What the calls of a tail tell (Filebeat reference, filestream input; this project's profile). Each call of `length`
+-- What the calls of a tail show (Filebeat reference, filestream input; this project's profile). Each call of `length`
 -- and each read into a nonempty buffer is one look; a call that fails is none.
 use Rattle.std.specs.Prelude.{◌≡◌, ℕ, ◌+◌, ◌<◌, ◌≤◌, List, [], ◌∷◌, ◌++◌, take, drop, Option, Some, None, Result, MatchResult}
 use Rattle.outside.specs.declared.failed.Failed.{Failed}
@@ -40,8 +40,8 @@ abbrev pub TellsLength : Option TailHistory → Result ℕ Failed → Option Tai
 TellsLength None result after = after ≡ None
 TellsLength (Some told) result after = MatchResult result (λ answer. LooksAtLength told answer after) (λ _. after ≡ Some told)
 
--- the look read at the place: the front of the buffer holds so many bytes of the present life from there, and there
--- are none only where what is there of that life ends at or before the place
+-- the look read at the place: the front of the buffer holds this many bytes of the present life from there, and there
+-- are none only if what is there of that life ends at or before the place
 pub record LooksAtBytes (told : TailHistory) (at : ℕ) (into : List ℕ) (count : ℕ) (after : Option TailHistory) : Type 0 where
   pub look : Look
   pub next : IsNextLook told look

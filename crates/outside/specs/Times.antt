@@ -5,7 +5,7 @@ use Rattle.std.specs.Prelude.{◌≡◌, ◌⊎◌, ℕ, ◌-◌, List, [], ◌�
 abbrev pub EndsWith : List ℕ → ℕ → Type 0
 EndsWith moments moment = slice_get moments (length moments - 1) ≡ Some moment
 
--- the answer stands at the end of the list, and was put there only where the list did not end with it already
+-- the answer is at the end of the list, and was put there only if the list did not end with it already
 abbrev pub GivesMoment : Option (List ℕ) → ℕ → Option (List ℕ) → Type 0
 GivesMoment None moment after = after ≡ None
 GivesMoment (Some moments) moment after =

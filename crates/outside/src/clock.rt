@@ -7,7 +7,7 @@ use wire_base::Moment;
 
 /// A clock that may go back and stand still.
 pub trait Clock {
-    /// The moments that it has given, in milliseconds, where they are told: each that differs from
+    /// The moments that it has given, in milliseconds, if they are known: each that differs from
     /// the one before it.
     ghost moments: { Self → Option (List ℕ) };
 

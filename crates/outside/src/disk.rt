@@ -10,9 +10,9 @@ use crate::Failed;
 ///
 /// Between two syncs that succeed each written range, and what lies past the old end, may hold any
 /// bytes after a crash; other bytes stay; a cut may leave the old length or the new. An object that
-/// tells nothing of its bytes tells no image either. The length is at most `MAX_PLACE`.
+/// reports nothing of its bytes reports no image either. The length is at most `MAX_PLACE`.
 pub trait Disk {
-    /// The bytes as they read, where they are told.
+    /// The bytes as they read, if they are known.
     ghost contents: { Self → Option (List ℕ) };
 
     /// An image: what a crash now may leave.
@@ -37,7 +37,7 @@ pub trait Disk {
         ensures faults_never_fall { faults self.old ≤ faults self.new }
         ensures failed_only_where_faults_rose { OnErr result (Rose (faults self.old) (faults self.new)) };
 
-    /// Reads from place `at` into the front of `into`; 0 into a nonempty buffer exactly where the
+    /// Reads from place `at` into the front of `into`; 0 into a nonempty buffer exactly if the
     /// length is at most `at`.
     fn read(&mut self, at: u64, into: &mut [u8]) -> Result<usize, Failed>
         ensures within_the_buffer { IfOk result (λ count. count ≤ length into.old) }
@@ -59,7 +59,7 @@ pub trait Disk {
         ensures faults_never_fall { faults self.old ≤ faults self.new }
         ensures failed_only_where_faults_rose { OnErr result (Rose (faults self.old) (faults self.new)) };
 
-    /// Takes away what stands at `len` and behind it; a shorter disk stays as it is.
+    /// Takes away what is at `len` and after it; a shorter disk stays as it is.
     fn cut(&mut self, len: u64) -> Result<(), Failed>
         ensures cut { Cut (contents self.old) len result (contents self.new) }
         ensures images { Follows (MayBeCut len) (images self.old) (images self.new) }
@@ -79,7 +79,7 @@ pub trait Disk {
     /// The disk as it reads is one of its images.
     ghost reads_as_an_image: { (disk : Self) → IfSome (contents disk) (images disk) };
 
-    /// A disk that tells nothing of its bytes tells no image.
+    /// A disk that reports nothing of its bytes reports no image.
     ghost images_where_told: { (disk : Self) (since : ℕ) (image : List ℕ) → images_since disk since image → IsSome (contents disk) };
 
     /// This moment is one of those since an earlier one.

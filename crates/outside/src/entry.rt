@@ -6,8 +6,8 @@ pub struct Entry {
     pub path: Text,
     /// The size at the moment of the listing, in bytes.
     pub size: u64,
-    /// Inode and device, where the system tells them.
+    /// Inode and device, if the system gives them.
     pub native: Option<(u64, u64)>,
-    /// When the file was last changed; 0 where the system does not tell it.
+    /// When the file was last changed; 0 if the system does not give it.
     pub changed: Moment,
 }

@@ -13,14 +13,14 @@ use wire_base::Text;
 pub trait Folder {
     type Tail: Tail;
 
-    /// Its files and the list of what was done so far, where they are told.
+    /// Its files and the list of what was done so far, if they are known.
     ghost told: { Self → Option FolderHistory };
 
-    /// What a call now finds of each file, by the file's number, where the folder tells anything. Open
+    /// What a call now finds of each file, by the file's number, if anything is known of the folder. Open
     /// tails may have seen more.
     ghost states: { Self → List Sight };
 
-    /// The regular files that a call now finds, where the folder tells anything.
+    /// The regular files that a call now finds, if anything is known of the folder.
     ghost present: { Self → List Shown };
 
     /// How many tails are open.
@@ -39,7 +39,7 @@ pub trait Folder {
         ensures faults_never_fall { faults self.old ≤ faults self.new }
         ensures failed_only_where_faults_rose { IsErrOf result FolderError.Failed → Rose (faults self.old) (faults self.new) };
 
-    /// Opens the file of this path; `None` only where no file has it at that moment.
+    /// Opens the file of this path; `None` only if no file has it at that moment.
     fn open(&mut self, alloc: Global, path: &Text) -> Result<Option<Self::Tail>, FolderError>
         ensures told { TellsOpening Self.Tail.told Self.Tail.numbers (told self.old) (states self.old) (present self.old) path.now result (told self.new) }
         ensures states_go_on { NoneEarlier (states self.old) (states self.new) }

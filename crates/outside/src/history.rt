@@ -12,7 +12,7 @@ pub struct Sight {
 #[derive(Clone, Copy, Debug, PartialEq, Eq)]
 pub enum Question {
     Length,
-    /// A read at a place, which gave so many bytes.
+    /// A read at a place, which gave this many bytes.
     ReadAt { place: u64, count: u64 },
 }
 

@@ -1,9 +1,9 @@
 //! The outside world as contracts see it: sources, sinks, folders with their tails, wires with their
 //! links, disks, clocks and bells.
 //!
-//! Each trait says what an object tells of its content, where it tells anything, and which counts
-//! never fall. An object in memory tells everything and a real one nothing; no call changes whether
-//! an object tells. A clause on content speaks where the object tells; clauses on ranges and on
+//! Each trait says what is known of an object's content, if anything is, and which counts
+//! never fall. An object in memory reports everything and a real one nothing; no call changes whether
+//! an object reports. A clause on content speaks if the object reports; clauses on ranges and on
 //! causes hold over every object. What a real file or socket holds is not known to any proof.
 #![tactic(auto)]
 

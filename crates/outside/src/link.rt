@@ -7,7 +7,7 @@ use crate::Failed;
 /// What a link has for its reader.
 #[derive(Clone, Copy, Debug, PartialEq, Eq)]
 pub enum Recv {
-    /// So many bytes, at least one.
+    /// This many bytes, at least one.
     Got(usize),
     /// The peer has closed the connection.
     Closed,
@@ -18,7 +18,7 @@ pub enum Recv {
 
 /// A connection to a peer.
 pub trait Link {
-    /// What was sent and received so far, where it is told.
+    /// What was sent and received so far, if it is known.
     ghost told: { Self → Option Talk };
 
     /// How often it has failed or found the connection closed.

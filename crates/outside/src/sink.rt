@@ -6,7 +6,7 @@ use crate::Failed;
 
 /// Where the report goes.
 pub trait Sink {
-    /// The bytes written so far, where they are told.
+    /// The bytes written so far, if they are known.
     ghost written: { Self → Option (List ℕ) };
 
     /// How often it has failed.

@@ -6,7 +6,7 @@ use crate::Failed;
 
 /// Bytes that are read from front to end, such as the settings file.
 pub trait Source {
-    /// The bytes that are left, where they are told.
+    /// The bytes that are left, if they are known.
     ghost left: { Self → Option (List ℕ) };
 
     /// How often it has failed.

@@ -9,10 +9,10 @@ use crate::Failed;
 ///
 /// Between two calls its present life may grow, and a later life may become the present one.
 pub trait Tail {
-    /// Its opening, its file and its looks so far, where they are told.
+    /// Its opening, its file and its looks so far, if they are known.
     ghost told: { Self → Option TailHistory };
 
-    /// Inode and device as the file was opened, where the system tells them.
+    /// Inode and device as the file was opened, if the system gives them.
     ghost numbers: { Self → Option (ℕ × ℕ) };
 
     /// How often it has failed.
@@ -31,7 +31,7 @@ pub trait Tail {
         ensures failed_only_where_faults_rose { OnErr result (Rose (faults self.old) (faults self.new)) }
         ensures faults_told_only_by_failures { IsSome (told self.old) → OnOk result (faults self.new ≡ faults self.old) };
 
-    /// Reads from place `at` into the front of `into`; 0 into a nonempty buffer only where the present
+    /// Reads from place `at` into the front of `into`; 0 into a nonempty buffer only if the present
     /// life ends at or before `at`. A call that fails, or that gets an empty buffer, is no look.
     fn read_at(&mut self, at: u64, into: &mut [u8]) -> Result<usize, Failed>
         ensures within_the_buffer { IfOk result (λ count. count ≤ length into.old) }

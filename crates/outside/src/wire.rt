@@ -9,7 +9,7 @@ use wire_base::Host;
 pub trait Wire {
     type Link: Link;
 
-    /// The connections that failed and the links that were finished, in their order, where they are told.
+    /// The connections that failed and the links that were finished, in their order, if they are known.
     ghost outcomes: { Self → Option (List Outcome) };
 
     /// How many links are not finished.

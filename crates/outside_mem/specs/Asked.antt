@@ -1,5 +1,5 @@
 -- How often an object in memory failed because a list, or the talk of a link, asked for it (this project's profile).
--- Else it fails only where memory is out, and its faults are both counts together. Closed tails count with their folder,
+-- Else it fails only when out of memory, and its faults are both counts together. Closed tails count with their folder,
 -- finished links with their wire.
 use Rattle.std.specs.Prelude.{ℕ}
 use Rattle.outside_mem.specs.declared.disk.MemDisk.{MemDisk}

@@ -17,7 +17,7 @@ pub record Fails (old new : Failures) : Type 0 where
   pub starved : new.starved ≡ old.starved
   pub asked : new.asked ≡ next_count old.asked
 
--- one fault was counted, because memory was out
+-- one fault was counted, because it was out of memory
 pub record Starves (old new : Failures) : Type 0 where
   pub faults : new.faults ≡ next_count old.faults
   pub no_less : old.faults ≤ new.faults

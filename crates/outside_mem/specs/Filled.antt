@@ -1,5 +1,5 @@
 -- Which image a pick gives of a disk in memory (this project's profile). Pick 1 gives each pending range the bytes that
--- stood there, and zeros past the end; pick 2 gives it the byte `7`, pick 3 the byte `{`. A pending cut leaves the old
+-- was there, and zeros past the end; pick 2 gives it the byte `7`, pick 3 the byte `{`. A pending cut leaves the old
 -- length. Every other pick gives what a read gives.
 use Rattle.std.specs.Prelude.{ℕ, zero, suc, ◌-◌, ◌==◌, if◌then◌else◌, List, [], ◌∷◌, ◌++◌, length, take, drop, replicate, Option, Some, None}
 use Rattle.outside_mem.specs.declared.crash.Filler.{Filler}
@@ -15,7 +15,7 @@ abbrev pub range_of : Filler → List ℕ → ℕ → ℕ → List ℕ
 range_of Kept old at len = take len (drop at old) ++ replicate (len - length (drop at old)) 0
 range_of (Byte byte) old at len = replicate len byte
 
--- what stands in a gap before the range
+-- what is in a gap before the range
 abbrev pub gap_byte : Filler → ℕ
 gap_byte Kept = 0
 gap_byte (Byte byte) = byte

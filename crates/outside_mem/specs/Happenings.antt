@@ -1,4 +1,4 @@
--- What a folder in memory tells of one thing that was done with it, and of a row of them (this project's profile).
+-- What a folder in memory reports of one thing that was done with it, and of a row of them (this project's profile).
 use Rattle.std.specs.Prelude.{◌+◌, List, [], ◌∷◌, ◌++◌, replicate}
 use Rattle.outside.specs.Folders.{Event, Listed, ListingFailed, Opened, NotThere, OpeningFailed, Closed}
 use Rattle.outside_mem.specs.declared.log.Happened.{Happened}

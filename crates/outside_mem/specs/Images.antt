@@ -1,4 +1,4 @@
--- What a disk in memory tells: its bytes and its images after each change since it was made (this project's profile).
+-- What a disk in memory reports: its bytes and its images after each change since it was made (this project's profile).
 use Rattle.std.specs.Prelude.{◌≡◌, ℕ, ◌≤◌, List, [], ◌∷◌, ◌++◌, length, take}
 use Rattle.std.proofs.Common.{refl, sym, subst, inr, arith}
 use Rattle.std.proofs.lemmas.List.{take_all}
@@ -8,7 +8,7 @@ use Rattle.outside_mem.specs.declared.change.Change.{Change}
 use Rattle.outside_mem.specs.declared.change.Change.TheVariants.{Wrote, WriteFailed, CutTo, Synced}
 use Rattle.outside_mem.specs.Torn.{Torn-refl, Torn-written}
 
--- a step that a crash may keep, lose or tear: a write of so many bytes at a place, or a cut to a length
+-- a step that a crash may keep, lose or tear: a write of this many bytes at a place, or a cut to a length
 pub data Pending : Type 0 where
   Write : ℕ → ℕ → Pending
   Cut : ℕ → Pending
@@ -52,14 +52,14 @@ IsLeft (step ∷ steps) bytes image = (next : List ℕ) × MayLeave step bytes n
 abbrev pub IsImageOf : Reading → List ℕ → Type 0
 IsImageOf r image = IsLeft r.pending r.synced image
 
--- what a change may leave where a crash tears it
+-- what a change may leave if a crash tears it
 abbrev pub MayLeaveBy : Change → List ℕ → List ℕ → Type 0
 MayLeaveBy (Wrote write) old new = Torn write.at (length write.bytes.items) old new
 MayLeaveBy (WriteFailed at len) old new = Torn at len old new
 MayLeaveBy (CutTo len) old new = MayBeCut len old new
 MayLeaveBy Synced old new = new ≡ old
 
--- after so many of the changes
+-- after this many of the changes
 abbrev pub reading_at : List ℕ → List Change → ℕ → Reading
 reading_at first changes moment = after (fresh first) (take moment changes)
 

@@ -18,13 +18,13 @@ pub record Lists (moments : List ToldMoment) (files : List Tracked) (listings : 
   pub event : event_of (happened_in listing.room) ≡ Listed root depth shown
   pub in_range : All IsListable listing.entries.items
 
--- one file more is in both lists where it is to be listed, and else in none
+-- one file more is in both lists if it is to be listed, and else in none
 abbrev pub AddsListed : List ℕ → ℕ → Shown → List Entry → List Shown → List Entry → List Shown → Type 0
 AddsListed root depth one entries shown more_entries more_shown =
     (IsListed root depth one × (more_entries ≡ entries ++ one.entry ∷ []) × (more_shown ≡ shown ++ one ∷ []))
     ⊎ ((¬ (IsListed root depth one)) × (more_entries ≡ entries) × (more_shown ≡ shown))
 
--- where a file was found it is added
+-- if a file was found it is added
 abbrev pub AddsFound : List ℕ → ℕ → Option Shown → List Entry → List Shown → List Entry → List Shown → Type 0
 AddsFound root depth None entries shown more_entries more_shown = (more_entries ≡ entries) × (more_shown ≡ shown)
 AddsFound root depth (Some one) entries shown more_entries more_shown = AddsListed root depth one entries shown more_entries more_shown

@@ -1,4 +1,4 @@
--- What a folder's log in memory tells (this project's profile).
+-- What a folder's log in memory reports (this project's profile).
 use Rattle.std.specs.Prelude.{List, ◌++◌, replicate}
 use Rattle.outside.specs.Folders.{Event, ListingFailed}
 use Rattle.outside_mem.specs.declared.log.Happened.{Happened}

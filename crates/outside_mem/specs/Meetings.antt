@@ -4,7 +4,7 @@ use Rattle.outside_mem.specs.declared.meet.Meeting.{Meeting}
 use Rattle.outside_mem.specs.declared.meet.Meeting.TheVariants.{Met, NotYet, Failed}
 use Rattle.outside_mem.specs.declared.meet.TheConstants.{MISSES}
 
--- so many calls did not meet before and after this one: it fails only behind the last that may go without
+-- this many calls did not meet before and after this one: it fails only after the last that may go without
 abbrev pub Asks : ℕ → ℕ → Meeting → Type 0
 Asks before after Met = after ≡ before
 Asks before after NotYet = (before < MISSES) × (after ≡ before + 1)

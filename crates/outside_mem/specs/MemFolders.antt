@@ -22,7 +22,7 @@ folder_files folder = files_of folder.files.items
 abbrev pub listed_moment : MemFolder → List ℕ → Moment
 listed_moment folder path = moment_of folder.moments.items path
 
--- these events were added, and nothing else changed that is told or counted
+-- these events were added, and nothing else changed that is reported or counted
 pub record NotesOnly (old new : MemFolder) (events : List Event) : Type 0 where
   pub noted : folder_events new ≡ folder_events old ++ events
   pub files : new.files ≡ old.files

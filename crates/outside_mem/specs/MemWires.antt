@@ -3,7 +3,7 @@ use Rattle.std.specs.Prelude.{◌≡◌}
 use Rattle.outside_mem.specs.declared.wire.MemWire.{MemWire}
 use Rattle.outside_mem.specs.Outcomes.{told}
 
--- what it tells and all its counts stay
+-- what it reports and all its counts stay
 pub record IsSame (old new : MemWire) : Type 0 where
   pub outcomes : told new.outcomes ≡ told old.outcomes
   pub open_links : new.unfinished ≡ old.unfinished

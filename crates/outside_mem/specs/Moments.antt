@@ -4,11 +4,11 @@ use Rattle.std.specs.Str.{bytes_eq}
 use Rattle.wire_base.specs.declared.numbers.Moment.{Moment}
 use Rattle.outside_mem.specs.declared.moments.ToldMoment.{ToldMoment}
 
--- the moment that was told last for the path, or else this one
+-- the moment that was set last for the path, or else this one
 abbrev pub moment_from : Moment → List ToldMoment → List ℕ → Moment
 moment_from moment [] path = moment
 moment_from moment (told ∷ later) path = moment_from (if bytes_eq told.path path then told.moment else moment) later path
 
--- and 0 where none was told
+-- and 0 if none was set
 abbrev pub moment_of : List ToldMoment → List ℕ → Moment
 moment_of told path = moment_from (record { 0 = 0 }) told path

@@ -23,7 +23,7 @@ abbrev pub after_steps : Standing → List MemStep → Standing
 after_steps s [] = s
 after_steps s (step ∷ steps) = after_steps (changed s step.change) steps
 
--- after so many listings and tail calls
+-- after this many listings and tail calls
 abbrev pub is_due : ℕ → ℕ → Due → Bool
 is_due listings calls (Listings count) = nat_le count listings
 is_due listings calls (TailCalls count) = nat_le count calls

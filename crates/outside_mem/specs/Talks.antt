@@ -1,4 +1,4 @@
--- What a peer in memory has for a buffer, after so many whole windows were sent to it and so many bytes were received
+-- What a peer in memory has for a buffer, after this many whole windows were sent to it and this many bytes were received
 -- (this project's profile). Acknowledgements are those of Lumberjack v2, each of six bytes.
 use Rattle.std.specs.Prelude.{◌≡◌, ◌⊎◌, ℕ, ◌+◌, ◌<◌, ◌≤◌, ◌/◌, ◌%◌, true, false, Bool, List, ◌∷◌, ◌++◌, length, take, drop, slice_index, sum_by}
 use Rattle.lumber_frame.specs.declared.frame.Frame.TheVariants.{Ack}
@@ -25,7 +25,7 @@ Acknowledges whole received into Closed = ⊥
 Acknowledges whole received into NotYet = length whole ≤ received / 6
 Acknowledges whole received into Failed = ⊥
 
--- a peer that is to meet another acknowledges windows alone, and fails only once ten calls went without the other
+-- a peer that is to meet another acknowledges only windows, and fails only once ten calls went without the other
 abbrev pub AnswersMet : MeetLink → List ℕ → ℕ → List ℕ → Answer → Type 0
 AnswersMet peer whole received into (Bytes count) = Acknowledges whole received into (Bytes count)
 AnswersMet peer whole received into Closed = ⊥
@@ -36,7 +36,7 @@ AnswersMet peer whole received into Failed = peer.misses ≡ MISSES
 abbrev pub size_of : List MemPiece → ℕ
 size_of pieces = sum_by (λ piece. length piece.bytes) pieces
 
--- the piece of which so many bytes were received and not all, once those before it were
+-- the piece of which this many bytes were received and not all, once those before it were
 pub record IsNext (pieces : List MemPiece) (received : ℕ) (piece : MemPiece) (at : ℕ) : Type 0 where
   pub before : List MemPiece
   pub after : List MemPiece
@@ -59,7 +59,7 @@ pub record AwaitsNext (pieces : List MemPiece) (windows received : ℕ) : Type 0
   pub next : IsNext pieces received piece at
   pub not_due : windows < piece.windows
 
--- pieces come in their order, each once so many whole windows were sent, and then the end or nothing more
+-- pieces come in their order, each once this many whole windows were sent, and then the end or nothing more
 abbrev pub AnswersPieces : List MemPiece → Bool → ℕ → ℕ → List ℕ → Answer → Type 0
 AnswersPieces pieces closes windows received into (Bytes count) = GivesNext pieces windows received count into
 AnswersPieces pieces closes windows received into Closed = (size_of pieces ≤ received) × (closes ≡ true)

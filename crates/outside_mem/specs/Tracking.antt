@@ -11,7 +11,7 @@ use Rattle.outside_mem.specs.Moments.{moment_of}
 use Rattle.outside_mem.specs.Scripts.{file_of}
 use Rattle.outside_mem.specs.Steps.{path_at, sight_at}
 
--- what is there of the file after so many listings and the tail calls that its folder knows
+-- what is there of the file after this many listings and the tail calls that its folder knows
 abbrev pub state_of : ℕ → Tracked → Sight
 state_of listings tracked = sight_at listings tracked.calls (arc_value tracked.script).file.steps.items
 
@@ -19,7 +19,7 @@ state_of listings tracked = sight_at listings tracked.calls (arc_value tracked.s
 abbrev pub path_of : ℕ → Tracked → Option (List ℕ)
 path_of listings tracked = path_at listings tracked.calls (arc_value tracked.script).file.path (arc_value tracked.script).file.steps.items
 
--- how a listing shows it by a path, with the moment of change that was told for the path
+-- how a listing shows it by a path, with the moment of change that was set for the path
 abbrev pub shown_by : List ToldMoment → ℕ → ℕ → Tracked → List ℕ → Shown
 shown_by moments number listings tracked path = let state = state_of listings tracked in record {
   entry = record { path = path; size = state.length; native = (arc_value tracked.script).file.native; changed = moment_of moments path };

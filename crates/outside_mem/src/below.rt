@@ -14,7 +14,7 @@ pub(crate) fn is_below(root: &[u8], depth: u32, path: &[u8]) -> bool
     are_names(names, depth)
 }
 
-/// What stands before the slash of each path below this root.
+/// What comes before the slash of each path below this root.
 fn front_of(root: &[u8]) -> &[u8]
     ensures { parts_of result.now ≡ folder_parts root.now }
 {

@@ -9,7 +9,7 @@ pub(crate) struct Write {
     ghost in_range: { at + vec_len bytes ≤ MAX_PLACE },
 }
 
-/// One change of a disk, kept so that each earlier moment can be told.
+/// One change of a disk, kept so that each earlier moment can be shown.
 #[derive(Drop)]
 pub(crate) enum Change {
     Wrote(Write),

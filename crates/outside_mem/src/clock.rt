@@ -5,7 +5,7 @@ use outside::Clock;
 use std::alloc::Global;
 use wire_base::{MAX_MOMENT, Moment, NoMemory};
 
-/// A clock that moves by pauses alone. Its list begins with the first moment that it gives.
+/// A clock that moves only by pauses. Its list begins with the first moment that it gives.
 #[derive(Drop)]
 pub struct MemClock {
     moments: Vec<u64>,

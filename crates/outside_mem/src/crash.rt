@@ -62,7 +62,7 @@ impl Replay {
         })
     }
 
-    /// Makes one change again, with a crash after it that lets `filler` stand in its range.
+    /// Makes one change again, with a crash after it that leaves `filler` in its range.
     pub(crate) fn step(
         &mut self,
         alloc: Global,

@@ -9,7 +9,7 @@ use outside::{Disk, Failed};
 use std::alloc::Global;
 use wire_base::NoMemory;
 
-/// A disk in memory that may stop at any call, all told: its bytes, and what a crash now or at any
+/// A disk in memory that may stop at any call, all known: its bytes, and what a crash now or at any
 /// earlier moment may leave.
 #[derive(Drop)]
 pub struct MemDisk {
@@ -65,7 +65,7 @@ impl MemDisk {
         self.failures.stop_after(calls);
     }
 
-    /// How often it failed because memory was out.
+    /// How often it failed because it was out of memory.
     pub fn starved(&self) -> u64
         ensures { ⟦<MemDisk as Disk>⟧.faults self.now ≡ added_counts result (disk_asked self.now) }
     {

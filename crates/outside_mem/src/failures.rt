@@ -14,7 +14,7 @@ pub(crate) struct Failures {
     pub(crate) failing: FailingCalls,
     pub(crate) faults: u64,
     pub(crate) starved: u64,
-    /// How often it failed where a list, or the talk of a link, asks for it.
+    /// How often it failed because a list, or the talk of a link, asked for it.
     pub(crate) asked: u64,
     ghost accounted: { faults ≡ added_counts starved asked },
 }
@@ -63,7 +63,7 @@ impl Failures {
         fails
     }
 
-    /// Counts a fault because memory is out.
+    /// Counts a fault for being out of memory.
     pub(crate) fn starve(&mut self)
         ensures { Starves self.old self.new }
     {

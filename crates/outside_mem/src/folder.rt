@@ -25,7 +25,7 @@ struct TailFailures {
     calls: Vec<u64>,
 }
 
-/// Folders in memory whose files change step by step, all told.
+/// Folders in memory whose files change step by step, all known.
 #[derive(Drop)]
 pub struct MemFolder {
     alloc: Global,
@@ -84,8 +84,8 @@ impl MemFolder {
         Ok(())
     }
 
-    /// Tells the moment of change with which later listings show this path; a path for which none
-    /// is told has 0.
+    /// Sets the moment of change with which later listings show this path; a path for which none
+    /// is set has 0.
     pub fn changed(&mut self, path: &Text, moment: Moment) -> Result<(), NoMemory>
         ensures told { OnOk result (listed_moment self.new path.now ≡ moment) }
         ensures others { (other : List ℕ) → other ≢ path.now →
@@ -99,7 +99,7 @@ impl MemFolder {
         Ok(())
     }
 
-    /// How often it, or a tail that was closed, failed because memory was out.
+    /// How often it, or a tail that was closed, failed because it was out of memory.
     pub fn starved(&self) -> u64
         ensures { ⟦<MemFolder as Folder>⟧.faults self.now ≡ added_counts result (folder_asked self.now) }
     {
@@ -119,7 +119,7 @@ impl MemFolder {
         Ok(failures)
     }
 
-    /// Notes one thing, where there is memory for it.
+    /// Notes one thing, if there is memory for it.
     fn note(&mut self, happened: Happened) -> Result<(), NoMemory>
         ensures ok { OnOk result (NotesOnly self.old self.new (event_of happened ∷ [])) }
         ensures err { OnErr result (NotesOnly self.old self.new []) }
@@ -138,7 +138,7 @@ impl MemFolder {
         self.note(Happened::OpeningFailed { path })
     }
 
-    /// Opens the file that is found by the path, where there is one.
+    /// Opens the file that is found by the path, if there is one.
     fn try_open(&mut self, path: &Text) -> Result<Option<MemTail>, NoMemory>
         ensures ok { IfOk result (OpensOrFindsNone self.old self.new path.now) }
         ensures err { OnErr result (NotesOnly self.old self.new []) }

@@ -1,7 +1,7 @@
-//! The outside world in memory: objects that tell all that they hold and all that was done with them.
+//! The outside world in memory: objects that report all that they hold and all that was done with them.
 //!
 //! They show that the contracts of the outside can be met, and the worked rows run over them. What is
-//! told is what was done. A call fails where a list names it, or where there is no memory for the
+//! reported is what was done. A call fails if a list names it, or if there is no memory for the
 //! object's own record; `starved` counts the latter.
 #![tactic(auto)]
 

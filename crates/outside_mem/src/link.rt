@@ -11,7 +11,7 @@ use outside::{Failed, Link, Recv};
 use std::alloc::Global;
 use wire_base::NoMemory;
 
-/// A connection to a peer in memory, all told. It is let go by `MemWire::finish` alone.
+/// A connection to a peer in memory, all known. Only `MemWire::finish` closes it.
 pub struct MemLink {
     alloc: Global,
     talk: MemTalk,
@@ -25,9 +25,9 @@ pub struct MemLink {
     history: LinkHistory,
     failed_sends: u64,
     starved: u64,
-    /// How often it failed, or was closed, where a list or its talk asks for it.
+    /// How often it failed, or was closed, because a list or its talk asked for it.
     asked: u64,
-    /// Where its outcome will stand.
+    /// Where its outcome will be.
     node: Box<OutcomeNode>,
     ghost accounted: { history.faults ≡ added_counts starved asked },
 }
@@ -148,7 +148,7 @@ impl MemLink {
         self.asked = self.asked.saturating_add(1);
     }
 
-    /// Fails because memory is out.
+    /// Fails as out of memory.
     fn starve(&mut self)
         ensures history { Faults self.old.history self.new.history }
         ensures failed_sends { self.new.failed_sends ≡ self.old.failed_sends }

@@ -3,7 +3,7 @@ ghost use Rattle.std.specs.Prelude.{OnOk, OnErr};
 use std::alloc::Global;
 use wire_base::{Blob, NoMemory, Piece};
 
-/// What a link in memory tells.
+/// What a link in memory reports.
 #[derive(Drop)]
 pub(crate) struct LinkHistory {
     pub(crate) pieces: Vec<Piece>,

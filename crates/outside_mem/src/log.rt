@@ -33,7 +33,7 @@ pub(crate) enum Happened {
     },
 }
 
-/// The place of an opening in a log: how many other things, and how many failed listings, stand before it.
+/// The place of an opening in a log: how many other things, and how many failed listings, come before it.
 #[derive(Clone, Copy)]
 pub(crate) struct Opening {
     pub(crate) noted: u64,
@@ -91,7 +91,7 @@ impl Log {
         }
     }
 
-    /// The place of the thing that is noted next; `None` where it cannot be counted.
+    /// The place of the thing that is noted next; `None` if it cannot be counted.
     pub(crate) fn next_place(&self) -> Option<Opening>
         ensures { IfSome result (λ place. place.noted + place.failed ≡ length (log_events self.now)) }
     {

@@ -10,7 +10,7 @@ pub(crate) struct ToldMoment {
     pub(crate) moment: Moment,
 }
 
-/// The moment that was told last for a path, 0 where none was.
+/// The moment that was set last for a path, 0 if none was.
 pub(crate) fn moment_of(told: &[ToldMoment], path: &Text) -> Moment
     ensures { result ≡ moment_of told.now path.now }
 {

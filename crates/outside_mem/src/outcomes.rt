@@ -72,7 +72,7 @@ impl Outcomes {
         }
     }
 
-    /// The talk of the link that was finished last; none where no link was.
+    /// The talk of the link that was finished last; none if no link was.
     pub(crate) fn last_talk(&self) -> &[Piece]
         ensures { result.now ≡ last_talk [] (told self.now) }
     {

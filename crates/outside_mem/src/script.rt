@@ -51,14 +51,14 @@ impl Script {
         Ok(Script { file })
     }
 
-    /// What is there after so many listings and tail calls.
+    /// What is there after this many listings and tail calls.
     pub(crate) fn sight(&self, listings: u64, calls: u64) -> Sight
         ensures { result ≡ sight_at listings calls self.now.file.steps.items }
     {
         self.read(listings, calls, 0, &mut []).sight
     }
 
-    /// Reads from place `at` into the front of `into`, after so many listings and tail calls.
+    /// Reads from place `at` into the front of `into`, after this many listings and tail calls.
     pub(crate) fn read(&self, listings: u64, calls: u64, at: u64, into: &mut [u8]) -> Reading
         ensures sight { result.sight ≡ sight_at listings calls self.now.file.steps.items }
         ensures count { result.count ≡ length (window (length into.old) at (standing_at listings calls self.now.file.steps.items).bytes) }
@@ -79,7 +79,7 @@ impl Script {
         }
     }
 
-    /// The path by which the file is found after so many listings and tail calls.
+    /// The path by which the file is found after this many listings and tail calls.
     pub(crate) fn path(&self, listings: u64, calls: u64) -> Option<&Text>
         ensures { option_copied result ≡ path_at listings calls self.now.file.path self.now.file.steps.items }
     {

@@ -5,7 +5,7 @@ use outside::{Failed, Sink};
 use std::alloc::Global;
 use wire_base::NoMemory;
 
-/// Keeps what is written, all told.
+/// Keeps what is written, all known.
 #[derive(Drop)]
 pub struct MemSink {
     bytes: Vec<u8>,
@@ -43,7 +43,7 @@ impl MemSink {
         &self.bytes
     }
 
-    /// How often it failed because memory was out.
+    /// How often it failed because it was out of memory.
     pub fn starved(&self) -> u64
         ensures { ⟦<MemSink as Sink>⟧.faults self.now ≡ added_counts result (sink_asked self.now) }
     {

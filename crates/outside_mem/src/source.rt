@@ -6,7 +6,7 @@ use outside::{Failed, Source};
 use std::alloc::Global;
 use wire_base::NoMemory;
 
-/// Bytes to read, all told.
+/// Bytes to read, all known.
 #[derive(Drop)]
 pub struct MemSource {
     bytes: Vec<u8>,
@@ -40,7 +40,7 @@ impl MemSource {
         self.failures.fail_at(calls)
     }
 
-    /// How often it failed because memory was out.
+    /// How often it failed because it was out of memory.
     pub fn starved(&self) -> u64
         ensures { ⟦<MemSource as Source>⟧.faults self.now ≡ added_counts result (source_asked self.now) }
     {

@@ -1,6 +1,6 @@
 use wire_base::{Blob, Text};
 
-/// When a step of a file is made: as soon as so many listings of its folder, or so many calls on tails
+/// When a step of a file is made: as soon as this many listings of its folder, or this many calls on tails
 /// of the file, were made.
 #[derive(Clone, Copy)]
 pub enum Due {
@@ -13,7 +13,7 @@ pub enum Due {
 pub enum MemChange {
     /// The present life grows by these bytes.
     Append(Blob),
-    /// The next life becomes present, with so many first bytes of the old one at most.
+    /// The next life becomes present, with at most this many first bytes of the old one.
     Truncate(u64),
     Rename(Text),
     /// The file has no path from then on; a tail that is open goes on.

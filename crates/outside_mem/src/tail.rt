@@ -8,7 +8,7 @@ use crate::script::{Reading, Script};
 use outside::{Failed, Look, Question, Sight, Tail};
 use std::sync::Arc;
 
-/// An opened file in memory, all told. It goes by the listings and the tail calls that its folder
+/// An opened file in memory, all known. It goes by the listings and the tail calls that its folder
 /// knew when it was opened, and by its own calls.
 #[derive(Drop)]
 pub struct MemTail {

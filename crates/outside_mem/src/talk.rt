@@ -9,7 +9,7 @@ use wire_base::Blob;
 /// How many bytes an acknowledgement has.
 const ACKNOWLEDGEMENT: usize = 6;
 
-/// Bytes that a peer sends once so many whole windows were sent to it.
+/// Bytes that a peer sends once this many whole windows were sent to it.
 #[derive(Drop)]
 pub struct MemPiece {
     pub windows: u64,
@@ -21,7 +21,7 @@ pub struct MemPiece {
 pub enum MemTalk {
     /// An acknowledgement of each whole window.
     All,
-    /// These pieces in their order, and then the end of the connection, where it closes.
+    /// These pieces in their order, and then the end of the connection, if it closes.
     Pieces { pieces: Vec<MemPiece>, closes: bool },
     /// An acknowledgement of each whole window, once this peer has met the other one.
     Meet(MeetLink),
@@ -30,7 +30,7 @@ pub enum MemTalk {
 /// What a peer has for a buffer.
 #[derive(Clone, Copy)]
 pub(crate) enum Answer {
-    /// So many bytes, which are in the front of the buffer.
+    /// This many bytes, which are in the front of the buffer.
     Bytes(usize),
     Closed,
     NotYet,
@@ -47,7 +47,7 @@ struct Next<'a> {
 
 impl MemTalk {
     /// Puts into the front of the buffer what is due after the whole windows of these counts were sent
-    /// and so many bytes were received.
+    /// and this many bytes were received.
     pub(crate) fn give(&mut self, whole: &[u32], received: usize, into: &mut [u8]) -> Answer
         requires { 0 < length into.old }
         ensures fits { IsAnswer (length into.old) result }

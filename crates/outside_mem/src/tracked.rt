@@ -29,7 +29,7 @@ impl Tracked {
         self.script.sight(listings, self.calls)
     }
 
-    /// How a listing shows the file, where it is found.
+    /// How a listing shows the file, if it is found.
     fn shown(
         &self,
         alloc: Global,
@@ -96,7 +96,7 @@ pub(crate) fn list_files(
     Ok(Listing { entries, room })
 }
 
-/// Adds what was found of one file to a listing, where it is to be listed.
+/// Adds what was found of one file to a listing, if it is to be listed.
 fn add_found(
     alloc: Global,
     root: &Text,
@@ -149,7 +149,7 @@ fn is_found(tracked: &Tracked, listings: u64, path: &Text) -> bool
     }
 }
 
-/// Adds the calls of a closed tail to those of its file, where there is a file of this number.
+/// Adds the calls of a closed tail to those of its file, if there is a file of this number.
 pub(crate) fn add_calls(files: &mut [Tracked], number: u64, calls: u64)
     ensures files { files_of files.new ≡ files_of files.old }
     ensures grow { (listings : ℕ) → NoneEarlier (states_of listings files.old) (states_of listings files.new) }

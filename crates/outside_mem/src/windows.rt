@@ -3,7 +3,7 @@ ghost use Rattle.std.specs.Prelude.{◌<◌, ◌≤◌};
 use lumber_frame::{FrameRead, FrameView, read_frame};
 use std::alloc::{AllocError, Global};
 
-/// How many bytes stand in front of a payload.
+/// How many bytes come before a payload.
 const HEAD: usize = 10;
 
 /// Counts the whole windows of sent bytes while these come, and keeps no payload.
@@ -36,7 +36,7 @@ impl WindowReader {
         }
     }
 
-    /// Reads further bytes, and gives the counts of the windows that they complete. Where there is no
+    /// Reads further bytes, and gives the counts of the windows that they complete. If there is no
     /// memory for a count, some of the bytes may have been read.
     pub(crate) fn read(&mut self, alloc: Global, bytes: &[u8]) -> Result<Vec<u32>, AllocError> {
         let mut whole = Vec::new(alloc);
@@ -84,7 +84,7 @@ impl WindowReader {
         }
     }
 
-    /// Opens a window, where none is open.
+    /// Opens a window, if none is open.
     fn open(&mut self, count: u32) -> Option<u32> {
         if count == 0 || self.begun < self.count {
             return self.lose();
@@ -95,7 +95,7 @@ impl WindowReader {
         None
     }
 
-    /// Takes the head of a JSON frame, where it has the next number of the window that is open.
+    /// Takes the head of a JSON frame, if it has the next number of the window that is open.
     fn take_json(&mut self) -> Option<u32> {
         let [_, _, a, b, c, d, e, f, g, h] = self.head;
         if self.count <= self.begun || u32::from_be_bytes([a, b, c, d]) != self.begun + 1 {
@@ -107,7 +107,7 @@ impl WindowReader {
         self.completed()
     }
 
-    /// The count of the open window, where its last payload has come.
+    /// The count of the open window, if its last payload has come.
     fn completed(&self) -> Option<u32> {
         if self.payload == 0 && self.begun == self.count {
             Some(self.count)

@@ -24,7 +24,7 @@ impl LinkFailures {
     }
 }
 
-/// Peers in memory, all told.
+/// Peers in memory, all known.
 #[derive(Drop)]
 pub struct MemWire {
     alloc: Global,
@@ -76,7 +76,7 @@ impl MemWire {
     }
 
     /// Names the sends and the receives that fail, each counted from 0, on the link of that number,
-    /// counted from 0 over the connections that succeed. It is heard where that link is still to come.
+    /// counted from 0 over the connections that succeed. It is observed if that link is still to come.
     pub fn fail_link_at(&mut self, link: u32, sends: &[u64], recvs: &[u64]) -> Result<(), NoMemory>
         ensures { IsSame self.old self.new }
     {
@@ -87,14 +87,14 @@ impl MemWire {
         Ok(())
     }
 
-    /// What was sent and received over the link that was finished last; nothing where none was.
+    /// What was sent and received over the link that was finished last; nothing if none was.
     pub fn last_talk(&self) -> &[Piece]
         ensures { IfSome (⟦<MemWire as Wire>⟧.outcomes self.now) (λ outcomes. result.now ≡ last_talk [] outcomes) }
     {
         self.outcomes.last_talk()
     }
 
-    /// How often it failed because memory was out, its finished links included.
+    /// How often it failed because it was out of memory, its finished links included.
     pub fn starved(&self) -> u64
         ensures { ⟦<MemWire as Wire>⟧.faults self.now ≡ added_counts result (wire_asked self.now) }
     {

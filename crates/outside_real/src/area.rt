@@ -45,7 +45,7 @@ impl Area {
         }
     }
 
-    /// The file, opened where it is not open yet.
+    /// The file, opened if it is not open yet.
     fn file(&mut self, rt: &impl Files<File = File>) -> io::Result<&File> {
         if self.file.is_none() {
             self.file = Some(self.open(rt)?);
@@ -57,7 +57,7 @@ impl Area {
         }
     }
 
-    /// Opens the file, made where nothing has its path, and locks it. Two areas that find nothing there at
+    /// Opens the file, made if nothing has its path, and locks it. Two areas that find nothing there at
     /// once do not both make it; a link to nothing is not followed.
     fn open(&mut self, rt: &impl Files<File = File>) -> io::Result<File> {
         let mut options = OpenOptions::new();

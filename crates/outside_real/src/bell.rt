@@ -6,7 +6,7 @@ use std::fs;
 use std::rt::Files;
 use wire_base::Text;
 
-/// Rings where the file that it names is there.
+/// Rings when the file that it names is there.
 #[derive(Drop)]
 pub struct FileBell<R> {
     rt: R,

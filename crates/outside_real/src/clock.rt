@@ -8,7 +8,7 @@ use std::time::Duration;
 use std::{thread, time};
 use wire_base::Moment;
 
-/// The system's clock of the day. Where it cannot be read, or reads a time before 1970, it gives the
+/// The system's clock of the day. If it cannot be read, or reads a time before 1970, it gives the
 /// moment that it gave last, and 0 at first.
 #[derive(Drop)]
 pub struct SystemClock<R> {

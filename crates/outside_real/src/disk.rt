@@ -8,7 +8,7 @@ use std::rt::Files;
 use wire_base::Text;
 
 /// One registry area: a regular file with a name in a folder. The first call that asks the system makes the
-/// file with no byte, and its folder, where they are not there, and locks it for as long as the object is
+/// file with no byte, and its folder, if they are not there, and locks it for as long as the object is
 /// there. What is no regular file, and a file that another has locked, are a call that failed.
 #[derive(Drop)]
 pub struct FileDisk<R> {

@@ -32,7 +32,7 @@ impl<R: Files<File = File>> DirFolder<R> {
     }
 }
 
-/// Counts a fault where the answer is that the folder failed.
+/// Counts a fault if the answer is that the folder failed.
 fn counted_failure<T>(faults: &mut u64, answer: Result<T, FolderError>) -> Result<T, FolderError>
     ensures same { result ≡ answer }
     ensures never_falls { faults.old ≤ faults.new }
@@ -59,7 +59,7 @@ fn open_regular(rt: &impl Files<File = File>, path: &Text) -> io::Result<Option<
     Ok(Some(FileTail::new(file, &found)))
 }
 
-/// `None` where nothing has the path, or what has it is no regular file.
+/// `None` if nothing has the path, or what has it is no regular file.
 fn find_regular(rt: &impl Files<File = File>, path: &Text) -> Result<Option<FileTail>, FolderError>
     ensures { IfOk result (λ found. IfSome found (λ tail. tail.faults ≡ 0)) }
 {

@@ -1,7 +1,7 @@
-//! The outside world itself: objects over std's files and sockets that meet the traits of `outside`
-//! and tell nothing of what they hold.
+//! The outside world itself: objects over std's files and sockets that implement the traits of `outside`
+//! and report nothing of what they hold.
 //!
-//! Each opens at its first call, asks std again where a signal cut a call short, and counts a fault
+//! Each opens at its first call, asks std again when a signal cut a call short, and counts a fault
 //! at each call of std that failed. A wire without a link, and a disk whose name is not synced yet, each
 //! keep a descriptor in reserve for that. What a file or a peer gives is known to no proof; ranges, counts
 //! and causes are. An object keeps the handle it reaches the system by: any type with the bounds

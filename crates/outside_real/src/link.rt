@@ -13,11 +13,11 @@ const PATIENCE: u64 = 10;
 /// How long a sending waits at once until the system takes some of the piece, in milliseconds.
 const SENDING: u64 = 250;
 
-/// After so many such waits, which are 5 seconds, a sending gives up.
+/// After this many such waits, which are 5 seconds, a sending gives up.
 const SENDING_WAITS: u32 = 20;
 
 /// A connection over TCP. A sending waits until the system takes some of the piece, and gives up 5 seconds
-/// after it last took a byte. A receiving right behind one that found nothing waits a hundredth of a second at most;
+/// after it last took a byte. A receiving right after one that found nothing waits a hundredth of a second at most;
 /// any other asks once and does not wait.
 #[derive(Drop)]
 pub struct TcpLink {
@@ -70,7 +70,7 @@ fn send_some(stream: &mut TcpStream, piece: &[u8]) -> io::Result<usize>
     Err(io::Error::from(ErrorKind::TimedOut))
 }
 
-/// Receives what is there; where nothing is, it waits for some or answers at once.
+/// Receives what is there; if nothing is, it waits for some or answers at once.
 fn receive_some(stream: &mut TcpStream, waits: bool, into: &mut [u8]) -> io::Result<usize>
     ensures { IfOk result (λ count. count ≤ length into.old) }
 {

@@ -13,7 +13,7 @@ pub(crate) fn moment_of(since_1970: Duration) -> Moment
     Moment(milliseconds.min(MAX_MOMENT))
 }
 
-/// When the file was last changed; 0 where the system does not tell it, or tells a time before 1970.
+/// When the file was last changed; 0 if the system does not give it, or gives a time before 1970.
 pub(crate) fn changed_of(found: &Metadata) -> Moment
     ensures { IsMoment result }
 {
@@ -23,7 +23,7 @@ pub(crate) fn changed_of(found: &Metadata) -> Moment
     }
 }
 
-/// Inode and device; no file has the inode 0, which stands where the system tells none.
+/// Inode and device; no file has the inode 0, which is used if the system gives none.
 pub(crate) fn numbers_of(found: &Metadata) -> Option<(u64, u64)> {
     match found.ino() {
         0 => None,

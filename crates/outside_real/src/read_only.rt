@@ -12,7 +12,7 @@ use std::io::ErrorKind;
 use std::rt::Files;
 use wire_base::{Moment, Text};
 
-/// A file that is opened for reading alone at the first call that finds it.
+/// A file that is opened for reading only at the first call that finds it.
 #[derive(Drop)]
 struct Found {
     path: Text,
@@ -20,7 +20,7 @@ struct Found {
 }
 
 impl Found {
-    /// `None` where nothing has the path.
+    /// `None` if nothing has the path.
     fn file(&mut self, rt: &impl Files<File = File>) -> io::Result<Option<&File>> {
         if self.file.is_none() && is_there(rt, self.path.as_str())? {
             let file = File::open(rt, self.path.as_str())?;
@@ -57,7 +57,7 @@ impl Found {
     }
 }
 
-/// One registry area that another program may have open: a regular file, opened for reading alone and not locked. Where
+/// One registry area that another program may have open: a regular file, opened for reading only and not locked. If
 /// nothing has the path there is no byte. A call that would change it is a call that failed.
 #[derive(Drop)]
 pub struct ReadOnlyFile<R> {
@@ -81,7 +81,7 @@ impl<R: Files<File = File> + Drop> ReadOnlyFile<R> {
 }
 
 impl<R: Files<File = File>> ReadOnlyFile<R> {
-    /// When the file was last changed; `None` where it is not there or the system does not tell it.
+    /// When the file was last changed; `None` if it is not there or the system does not give it.
     pub fn changed(&mut self) -> Option<Moment> {
         match self.found.changed(&self.rt) {
             Ok(Some(moment)) if 0 < moment.0 => Some(moment),

@@ -1,10 +1,10 @@
 use std::fs::File;
 use std::rt::Files;
 
-/// What is opened for its descriptor alone.
+/// What is opened only for its descriptor.
 const RESERVED_PATH: &str = "/dev/null";
 
-/// A descriptor that is kept for a later call, which finds one so also where files have taken all others.
+/// A descriptor that is kept for a later call, which then finds one also if files have taken all others.
 #[derive(Drop)]
 pub(crate) struct Reserve {
     kept: Option<File>,

@@ -33,7 +33,7 @@ impl<R: Files<File = File>> FileSource<R> {
     }
 }
 
-/// Reads on in the file, opened first where it is not open yet.
+/// Reads on in the file, opened first if it is not open yet.
 fn read_on(
     rt: &impl Files<File = File>,
     path: &Text,

@@ -7,7 +7,7 @@ use std::io::{ErrorKind, Read, Write};
 use std::os::unix::fs::FileExt;
 use wire_base::MAX_PLACE;
 
-/// Reads once, and again where a signal cut the call short.
+/// Reads once, and again when a signal cut the call short.
 pub(crate) fn read_some(reader: &mut impl Read, into: &mut [u8]) -> io::Result<usize>
     ensures { IfOk result (λ count. count ≤ length into.old) }
 {
@@ -20,7 +20,7 @@ pub(crate) fn read_some(reader: &mut impl Read, into: &mut [u8]) -> io::Result<u
     Err(io::Error::from(ErrorKind::Interrupted))
 }
 
-/// Reads at a place; nothing stands at `MAX_PLACE` or behind it.
+/// Reads at a place; nothing is at `MAX_PLACE` or after it.
 pub(crate) fn read_some_at(file: &File, at: u64, into: &mut [u8]) -> io::Result<usize>
     ensures within { IfOk result (λ count. count ≤ length into.old) }
     ensures in_range { IfOk result (λ count. 0 < count → IsPlace (at + count)) }

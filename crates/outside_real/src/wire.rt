@@ -12,14 +12,14 @@ use std::rt::Files;
 use std::time::{Clock, Duration};
 use wire_base::Host;
 
-/// After so many seconds a connecting gives up.
+/// After this many seconds a connecting gives up.
 const CONNECTING: u64 = 5;
 
 /// The way to peers over TCP. A connecting gives up 5 seconds after it began. It has the system look up a
 /// name, for as long as that takes, and tries the addresses in turn; each has an equal part of the time that
 /// is left.
 ///
-/// While it has no link it keeps a descriptor in reserve, so that a connecting finds one also where files have
+/// While it has no link it keeps a descriptor in reserve, so that a connecting finds one also if files have
 /// taken all others.
 #[derive(Drop)]
 pub struct TcpWire<R> {

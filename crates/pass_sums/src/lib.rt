@@ -3,5 +3,5 @@
 //!
 //! A pass is a value with no bytes by which a thread carries what it knows. The right to know the
 //! whole is cut into shares as passes are split, and whoever has all shares knows that no other
-//! pass knows anything. Definitions and lemmas alone; nothing here runs.
+//! pass knows anything. Only definitions and lemmas; nothing here runs.
 #![tactic(auto)]

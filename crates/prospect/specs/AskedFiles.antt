@@ -1,6 +1,6 @@
 -- The keys of listed files whose inputs know their files by fingerprints (Filebeat reference, file identity,
 -- `fingerprint`; this project's profile): each such file is opened by its path, asked for its key and closed again, one
--- behind the other. A file that is too small for its fingerprint has no key yet, and one that is gone has none.
+-- after the other. A file that is too small for its fingerprint has no key yet, and one that is gone has none.
 use Rattle.std.specs.Prelude.{◌≡◌, ◌⊎◌, ◌<◌, ℕ, List, [], ◌∷◌, ◌++◌, flat_map, length, map, slice_get, All, Option, Some, None}
 use Rattle.std.specs.List.{AllByRecursion}
 use Rattle.event_tree.specs.declared.input_rule.InputRule.{InputRule}
@@ -18,7 +18,7 @@ use Rattle.prospect.specs.Scan.{with_events}
 
 -- what asking for a listed file's key came to
 pub data Answer : Type 0 where
-  -- its entry told the key
+  -- its entry gave the key
   ByName : Answer
   -- the tail of the opening at this place of the folder's list gave this key, or its bytes were too few
   Gave : ℕ → List ℕ → Answer
@@ -31,7 +31,7 @@ pub record AskedFile : Type 0 where
   pub listed : Listed
   pub answer : Answer
 
--- the file was opened there by its path, told one whole asking, and was closed without a fault
+-- the file was opened there by its path, reported one whole asking, and was closed without a fault
 pub record WasAsked (rule : InputRule) (one : Listed) (opening : ℕ) (key : Option (List ℕ)) (before after : FolderHistory) : Type 0 where
   pub by_bytes : IsFingerprint rule.file_identity
   pub opening_is : opening ≡ length before.events
@@ -51,7 +51,7 @@ pub record WasGone (rule : InputRule) (one : Listed) (opening : ℕ) (before aft
   pub opening_is : opening ≡ length before.events
   pub kept : after ≡ with_events before (NotThere one.path ∷ [])
 
--- the answer came so; a file whose entry told its key is not opened
+-- the answer came from this; a file whose entry gave its key is not opened
 abbrev pub AnswersSo : InputRule → Listed → Answer → FolderHistory → FolderHistory → Type 0
 AnswersSo rule one ByName before after = (¬ (IsFingerprint rule.file_identity)) × (after ≡ before)
 AnswersSo rule one (Gave opening key) before after = WasAsked rule one opening (Some key) before after
@@ -64,7 +64,7 @@ pub record AsksOne (inputs : List InputRule) (asked : AskedFile) (before after :
   pub rule_is : slice_get inputs asked.listed.input ≡ Some rule
   pub answered : AnswersSo rule asked.listed asked.answer before after
 
--- one behind the other, and nothing else was done
+-- one after another, and nothing else was done
 abbrev pub AsksFrom : List InputRule → List AskedFile → FolderHistory → FolderHistory → Type 0
 AsksFrom inputs [] before after = after ≡ before
 AsksFrom inputs (one ∷ asked) before after = (mid : FolderHistory) × AsksOne inputs one before mid × AsksFrom inputs asked mid after
@@ -72,7 +72,7 @@ AsksFrom inputs (one ∷ asked) before after = (mid : FolderHistory) × AsksOne 
 abbrev pub with_key : Listed → List ℕ → Listed
 with_key one key = record one { key = Some key }
 
--- the file with its key, where it is known
+-- the file with its key, if it is known
 abbrev pub keyed_as : Listed → Answer → List Listed
 keyed_as one ByName = one ∷ []
 keyed_as one (Gave opening key) = with_key one key ∷ []
@@ -82,7 +82,7 @@ keyed_as one (NotFound opening) = []
 abbrev pub keyed_by : AskedFile → List Listed
 keyed_by asked = keyed_as asked.listed asked.answer
 
--- the file, where it was gone
+-- the file, if it was gone
 abbrev pub gone_as : Listed → Answer → List Listed
 gone_as one ByName = []
 gone_as one (Gave opening key) = []
@@ -92,7 +92,7 @@ gone_as one (NotFound opening) = one ∷ []
 abbrev pub gone_by : AskedFile → List Listed
 gone_by asked = gone_as asked.listed asked.answer
 
--- the file, where its bytes were too few
+-- the file, if its bytes were too few
 abbrev pub small_as : Listed → Answer → List Listed
 small_as one ByName = []
 small_as one (Gave opening key) = []
@@ -102,7 +102,7 @@ small_as one (NotFound opening) = []
 abbrev pub small_by : AskedFile → List Listed
 small_by asked = small_as asked.listed asked.answer
 
--- each listed file was asked for its key in their order, and is put where its answer belongs
+-- each listed file was asked for its key in their order, and is put at the place to which its answer belongs
 pub record AsksFiles (inputs : List InputRule) (told : FolderHistory) (listed : List Listed) (keyed : Keyed) (after : Option FolderHistory) : Type 0 where
   pub asked : List AskedFile
   pub are : map (λ one. one.listed) asked ≡ listed
@@ -137,7 +137,7 @@ FailsSo path before last = (last ≡ OpeningFailed path ∷ []) ⊎ WasReadInVai
 abbrev pub CutsOff : List ℕ → FolderHistory → List Event → Type 0
 CutsOff path before last = (last ≡ OpeningFailed path ∷ []) ⊎ OnlyRead path before last
 
--- so it ended at the first of these files, whose input knows its files by fingerprints
+-- it ended this way at the first of these files, whose input knows its files by fingerprints
 pub record CutsFirst (inputs : List InputRule) (others : List Listed) (before : FolderHistory) (last : List Event) : Type 0 where
   pub one : Listed
   pub behind : List Listed
@@ -162,7 +162,7 @@ pub record AsksSome (inputs : List InputRule) (told : FolderHistory) (listed : L
   pub ends : IsCutOff inputs others mid last
   pub after_is : after ≡ Some (with_events mid last)
 
--- ---- what is answered, whether or not the folder tells anything
+-- ---- what is answered, whether or not anything is known of the folder
 
 -- each fingerprint is of some bytes within a file
 abbrev pub AreAskable : List InputRule → Type 0
@@ -172,7 +172,7 @@ AreAskable inputs = All (λ input. IsAskable input.file_identity) inputs
 abbrev pub ReadNoFile : List InputRule → Type 0
 ReadNoFile inputs = All (λ input. ¬ (IsFingerprint input.file_identity)) inputs
 
--- the file as it was listed where its entry told the key, and else with a key of as many bytes as are wanted
+-- the file as it was listed if its entry gave the key, and else with a key of as many bytes as are wanted
 abbrev pub IsKept : InputRule → Listed → Listed → Type 0
 IsKept rule one kept =
     ((¬ (IsFingerprint rule.file_identity)) × (kept ≡ one))

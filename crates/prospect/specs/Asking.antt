@@ -16,7 +16,7 @@ use Rattle.prospect.specs.declared.listed.Listed.{Listed}
 use Rattle.prospect.specs.AskedFiles.{Answer, AnswersSo, AskedFile, AsksOne, ByName, CutsOff, FailsSo, Gave, KeepsFiles, NotFound, TooFew, gone_by, keyed_by, small_by}
 use Rattle.prospect.specs.Scan.{with_events}
 
--- the answer, where the file's opening has this place
+-- the answer, if the file's opening has this place
 abbrev pub answer_at : ℕ → Asked → Answer
 answer_at opening Told = ByName
 answer_at opening (Known key) = Gave opening key
@@ -55,7 +55,7 @@ IsAnswerFor rule one (Known key) = IsFingerprint rule.file_identity × IsKeyBy r
 IsAnswerFor rule one Small = IsFingerprint rule.file_identity
 IsAnswerFor rule one Gone = IsFingerprint rule.file_identity
 
--- what an open file told of its key, as the answer of the folder; a fingerprint lacks no native numbers
+-- what an open file gave of its key, as the answer of the folder; a fingerprint lacks no native numbers
 abbrev pub IsAnswered : Result Identity IdentityError → Result Asked FolderError → Type 0
 IsAnswered (Ok (Key key)) answer = answer ≡ Ok (Known key)
 IsAnswered (Ok (TooSmall place)) answer = answer ≡ Ok Small
@@ -69,7 +69,7 @@ pub record PutsBy (asked : AskedFile) (old new : Keyed) : Type 0 where
   pub gone : new.gone.items ≡ old.gone.items ++ gone_by asked
   pub small : new.small.items ≡ old.small.items ++ small_by asked
 
--- where the opening of the file has whichever place, it was put so
+-- whichever place the opening of the file has, it was put this way
 abbrev pub PutsAs : Listed → Asked → Keyed → Keyed → Type 0
 PutsAs one asked old new = (opening : ℕ) → PutsBy (record { listed = one; answer = answer_at opening asked }) old new
 

@@ -20,7 +20,7 @@ pub record Pair : Type 0 where
 abbrev pub pair_of : Entry → Reading → Pair
 pair_of entry reading = record { entry = entry; reading = reading }
 
--- the entries of a path with an input, as far as it tells them apart
+-- the entries of a path with an input, as far as it distinguishes them
 abbrev pub pairs_for : Showing → Reading → List Pair
 pairs_for showing reading = map (λ entry. pair_of entry reading) (entries_for reading.identity showing)
 
@@ -35,7 +35,7 @@ pairs_of readings showings = flat_map (pairs_with readings) showings
 abbrev pub CoversEntry : Pair → Type 0
 CoversEntry pair = IsCovered pair.reading.globs pair.entry.path
 
--- inode and device, where they were told
+-- inode and device, where they were given
 abbrev pub AreNumbers : Option (ℕ × ℕ) → Type 0
 AreNumbers numbers = IfSome numbers (λ both. (both.0 < 2 ^ 64) × (both.1 < 2 ^ 64))
 
@@ -77,7 +77,7 @@ pub record Stop (pairs : List Pair) : Type 0 where
   pub more : List Listed
   pub covered_before : AreCovered before more
 
--- the input of this pair asks for the numbers of an entry that it covers, and none were told
+-- the input of this pair asks for the numbers of an entry that it covers, and none were given
 pub record IsUntold (pairs : List Pair) (path : List ℕ) : Type 0 where
   pub stop : Stop pairs
   pub covers : CoversEntry stop.pair

@@ -9,7 +9,7 @@ abbrev pub HaveKey : List Listed → Option (List ℕ) → Type 0
 HaveKey files None = ⊥
 HaveKey files (Some key) = Any (λ one. one.key ≡ Some key) files
 
--- behind these files, which are followed, the listed ones are parted so
+-- after these files, which are followed, the listed ones are parted this way
 abbrev pub PartsBehind : List Listed → List Listed → List Listed → List Listed → Type 0
 PartsBehind before [] files doubled = (files ≡ []) × (doubled ≡ [])
 PartsBehind before (one ∷ listed) files doubled =
@@ -27,7 +27,7 @@ abbrev pub AreKeysApart : List Listed → Type 0
 AreKeysApart [] = Unit {0}
 AreKeysApart (one ∷ others) = (¬ (HaveKey others one.key)) × AreKeysApart others
 
--- R holds of each file and each one behind it
+-- R holds of each file and each one after it
 abbrev pub Before : (Listed → Listed → Type 0) → List Listed → Type 0
 Before R [] = Unit {0}
 Before R (one ∷ others) = AllByRecursion (λ later. R one later) others × Before R others

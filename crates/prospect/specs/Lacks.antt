@@ -5,7 +5,7 @@ use Rattle.event_tree.specs.declared.input_rule.InputRule.{InputRule}
 use Rattle.event_tree.specs.declared.settings.Settings.{Settings}
 use Rattle.wire_base.specs.KeyOrder.{compare}
 
--- the key, where what it asks for is not built
+-- the key, if what it asks for is not built
 abbrev pub unless_built : Bool → List ℕ → List (List ℕ)
 unless_built true key = []
 unless_built false key = key ∷ []

@@ -1,6 +1,6 @@
 -- The files of one scan (Filebeat reference, filestream paths and file identity; this project's profile): each path that
 -- its listings showed is a file once for each input that has a glob which covers it, in byte order of the paths and then
--- by the inputs' places in the settings. Where two listings showed one path with other native numbers, as of a file that took
+-- by the inputs' places in the settings. If two listings showed one path with other native numbers, as of a file that took
 -- another's name meanwhile, it is a file of each of them to an input that knows files by these.
 use Rattle.std.specs.Prelude.{◌≡◌, ◌≢◌, ℕ, List, [], ◌∷◌, flat_map, slice_get, All, Any, Contains, Option, None, Some, IfSome, IsSome}
 use Rattle.std.specs.List.{AllByRecursion}
@@ -22,7 +22,7 @@ use Rattle.prospect.specs.Members.{IsCovered, globs_of}
 use Rattle.prospect.specs.Scan.{AreListed, Listing}
 use Rattle.prospect.specs.Unfinished.{ListsSome}
 
--- what the listings showed, one behind the other
+-- what the listings showed, one after another
 abbrev pub shown_in : List Listing → List Shown
 shown_in listings = flat_map (λ listing. listing.shown) listings
 
@@ -40,7 +40,7 @@ pub record IsListedBy (inputs : List InputRule) (listed : Listed) (shown : Shown
 abbrev pub AreOfShown : List InputRule → List Listing → List Listed → Type 0
 AreOfShown inputs listings listed = All (λ one. Any (λ shown. IsListedBy inputs one shown) (shown_in listings)) listed
 
--- where a file stands in the order: a path, and an input's place
+-- the place of a file in the order: a path, and an input's place
 pub record Place : Type 0 where
   pub path : List ℕ
   pub input : ℕ
@@ -52,7 +52,7 @@ place_of listed = record { path = listed.path; input = listed.input }
 abbrev pub place_order : Place → Place → Ordering
 place_order one other = ordering_then (compare one.path other.path) (nat_cmp one.input other.input)
 
--- what tells files of one place apart is the key that the entry gave
+-- what distinguishes files of one place is the key that the entry gave
 pub record Name : Type 0 where
   pub place : Place
   pub key : Option (List ℕ)
@@ -69,7 +69,7 @@ abbrev pub AreApart : List Listed → Type 0
 AreApart [] = Unit {0}
 AreApart (one ∷ others) = (¬ (HasFile others (name_of one))) × AreApart others
 
--- none stands before one that is ahead of it in the order
+-- none comes before one that is ahead of it in the order
 abbrev pub AreInOrder : List Listed → Type 0
 AreInOrder [] = Unit {0}
 AreInOrder (one ∷ others) = AllByRecursion (λ later. place_order (place_of later) (place_of one) ≢ Less) others × AreInOrder others
@@ -104,7 +104,7 @@ pub record ScansFiles (inputs : List InputRule) (told : FolderHistory) (listed :
   pub listed_is : AreListed (globs_of inputs) told listings after
   pub shown : AreFilesShown inputs listings listed
 
--- the key is told where the identity does not read the file
+-- the key is known if the identity does not read the file
 abbrev pub KeyIsTold : IdentityRule → Option (List ℕ) → Type 0
 KeyIsTold (Fingerprint offset count) key = Unit {0}
 KeyIsTold Native key = IsSome key
@@ -131,7 +131,7 @@ pub record FindsNoNumbers (inputs : List InputRule) (told : FolderHistory) (path
   pub listed_is : AreListed (globs_of inputs) told listings after
   pub lacks : LacksNumbersFirst inputs listings path
 
--- what was done where a scan tells no file
+-- what was done when a scan gives no file
 abbrev pub EndsAs : List InputRule → FolderHistory → ScanError → Option FolderHistory → Type 0
 EndsAs inputs told Failed after = ListsSome (globs_of inputs) told after
 EndsAs inputs told NoMemory after = ListsSome (globs_of inputs) told after

@@ -1,5 +1,5 @@
 -- A scan that goes on past what fails (Filebeat reference, filestream input; this project's profile): the root of each glob is
--- listed once, in the order of the settings, also behind a listing that failed; what the served listings showed decides which files are told. A
+-- listed once, in the order of the settings, also after a listing that failed; what the served listings showed decides which files are reported. A
 -- file whose key cannot be asked for is left out, and the others are asked. Such a scan is partial.
 use Rattle.std.specs.Prelude.{◌≡◌, ◌⊎◌, ℕ, List, [], ◌∷◌, ◌++◌, flat_map, map, slice_get, Option, Some}
 use Rattle.event_tree.specs.declared.input_rule.InputRule.{InputRule}
@@ -39,7 +39,7 @@ abbrev pub unserved_by : Attempt → List (List ℕ)
 unserved_by (Served listing) = []
 unserved_by (Unserved glob) = root_of glob ∷ []
 
--- the attempts stand so in the folder's list, one behind the other; a failed listing does until the folder's count of faults stands at its end
+-- the attempts are in the folder's list this way, in sequence; a failed listing does until the folder's count of faults is at its end
 abbrev pub StandSo : ℕ → List Attempt → List Event → Type 0
 StandSo faults [] events = events ≡ []
 StandSo faults (Served listing ∷ attempts) events = (more : List Event) × (events ≡ event_of listing ∷ more) × StandSo faults attempts more
@@ -72,7 +72,7 @@ pub record ServesFiles (inputs : List InputRule) (told : FolderHistory) (failed 
   pub tries : TriesGlobs (globs_of inputs) told failed faults after
   pub shown : AreFilesShown inputs (served_in tries.attempts) listed
 
--- why what they showed tells no files
+-- why what they showed gives no files
 abbrev pub RefusesBy : List InputRule → List Listing → ScanError → Type 0
 RefusesBy inputs listings Failed = ⊥
 RefusesBy inputs listings NoMemory = ⊥
@@ -121,7 +121,7 @@ abbrev pub TriesOne : List InputRule → Trial → FolderHistory → FolderHisto
 TriesOne inputs (Answered asked) before after = AsksOne inputs asked before after
 TriesOne inputs (Faulted one) before after = FaultsOne inputs one before after
 
--- one behind the other, and nothing else was done
+-- one after another, and nothing else was done
 abbrev pub TriesFrom : List InputRule → List Trial → FolderHistory → FolderHistory → Type 0
 TriesFrom inputs [] before after = after ≡ before
 TriesFrom inputs (one ∷ trials) before after = (mid : FolderHistory) × TriesOne inputs one before mid × TriesFrom inputs trials mid after

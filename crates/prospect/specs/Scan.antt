@@ -1,5 +1,5 @@
 -- The listings of one scan (Filebeat reference, filestream input; this project's profile): the root of each glob is listed
--- once, in the order of the settings, and what the listings showed together decides which files are told.
+-- once, in the order of the settings, and what the listings showed together decides which files are reported.
 use Rattle.std.specs.Prelude.{◌≡◌, ℕ, List, ◌++◌, map, Option, Some}
 use Rattle.glob_paths.specs.Root.{root_of, depth_of}
 use Rattle.outside.specs.declared.failed.FolderError.{FolderError}
@@ -27,13 +27,13 @@ pub record AreListed (globs : List (List ℕ)) (told : FolderHistory) (listings 
   pub one_for_each_glob : map (λ listing. listing.glob) listings ≡ globs
   pub kept : after ≡ Some (with_events told (map event_of listings))
 
--- a path that is told has the length of one
+-- a path that is reported has the length of one
 abbrev pub TellsPath : ScanError → Type 0
 TellsPath ScanFailed = Unit {0}
 TellsPath ScanNoMemory = Unit {0}
 TellsPath (NoNative path) = IsPath path
 
--- what a scan answers where a listing answers so
+-- what a scan answers if a listing answers this
 abbrev pub IsErrorOf : FolderError → ScanError → Type 0
 IsErrorOf Failed error = error ≡ ScanFailed
 IsErrorOf NoMemory error = error ≡ ScanNoMemory

@@ -1,4 +1,4 @@
--- What was listed where a scan ends before it tells its files (this project's profile): the roots of the first globs, in
+-- What was listed when a scan ends before it reports its files (this project's profile): the roots of the first globs, in
 -- the order of the settings; a listing that failed is the last.
 use Rattle.std.specs.Prelude.{◌≡◌, ◌⊎◌, ℕ, List, [], ◌∷◌, Option, Some}
 use Rattle.glob_paths.specs.Root.{root_of, depth_of}

@@ -25,7 +25,7 @@ pub struct Keyed {
 }
 
 /// Opens each listed file whose input knows its files by fingerprints, asks it for its key, and
-/// closes it again, one file behind the other. A file of another input is not opened, and keeps the
+/// closes it again, one file after another. A file of another input is not opened, and keeps the
 /// key with which it was listed.
 ///
 /// `Failed` means that an opening or a read failed, and that the folder's count of faults rose;
@@ -107,7 +107,7 @@ fn ask_next<F: Folder>(
 /// What asking a listed file for its key came to.
 #[derive(Drop)]
 pub(crate) enum Asked {
-    /// Its entry told the key.
+    /// Its entry gave the key.
     Told,
     Known(Text),
     Small,
@@ -162,7 +162,7 @@ pub(crate) fn ask<F: Folder>(
     }
 }
 
-/// What an open file told of its key, as the answer of the folder. A fingerprint lacks no native
+/// What an open file reported of its key, as the answer of the folder. A fingerprint lacks no native
 /// numbers.
 fn answer(key: Result<Identity, IdentityError>) -> Result<Asked, FolderError>
     ensures { IsAnswered key result }

@@ -36,7 +36,7 @@ pub fn list_entries(
     Ok(listed)
 }
 
-/// Tells what was shown of a path for each input that covers it.
+/// Reports what was shown of a path for each input that covers it.
 fn list_showing(
     alloc: Global,
     inputs: &[ScanInput],
@@ -55,8 +55,8 @@ fn list_showing(
     Ok(())
 }
 
-/// Tells what was shown of a path for an input, if it covers the path. Only native numbers tell
-/// files of one path apart.
+/// Reports what was shown of a path for an input, if it covers the path. Only native numbers distinguish
+/// files of one path.
 fn list_for(
     alloc: Global,
     input: &ScanInput,
@@ -94,7 +94,7 @@ fn list_others(
     Ok(())
 }
 
-/// Tells an entry for an input, if it covers it.
+/// Reports an entry for an input, if it covers it.
 fn list_entry(
     alloc: Global,
     input: &ScanInput,
@@ -131,7 +131,7 @@ fn file_of(alloc: Global, input: &ScanInput, entry: &Entry) -> Result<Listed, Sc
     })
 }
 
-/// The key, as far as the entry tells it.
+/// The key, as far as the entry gives it.
 fn entry_key(alloc: Global, input: &ScanInput, entry: &Entry) -> Result<Option<Text>, ScanError>
     ensures key { IfOk result (λ key. key ≡ listed_key input.now.id input.now.identity entry.now) }
     ensures told { IfOk result (KeyIsTold input.now.identity) }

@@ -16,13 +16,13 @@ use glob_paths::Glob;
 use outside::{Folder, FolderError};
 use std::alloc::Global;
 
-/// Lists the root of each glob once, in the order of the settings, and tells each path that a glob
+/// Lists the root of each glob once, in the order of the settings, and reports each path that a glob
 /// covers once for its input, in byte order of the paths and then by the inputs' places. A path
-/// that two listings showed with other native numbers is told once for each of them to an input
+/// that two listings showed with other native numbers is reported once for each of them to an input
 /// that knows its files by these.
 ///
 /// What all listings showed together decides. `NoNative` has the first path in that order whose
-/// input asks for native numbers that were not told. `NoMemory` means out of memory, or more than
+/// input asks for native numbers that were not given. `NoMemory` means out of memory, or more than
 /// 4,294,967,296 inputs. A path is matched once with each glob, however often it is shown with the
 /// same native numbers.
 pub fn list_files<F: Folder>(

@@ -19,7 +19,7 @@ use wire_base::{NoMemory, Text};
 /// What the listings of a scan came to that goes on past those that fail.
 #[derive(Debug, Drop)]
 pub struct Listings {
-    /// The files that the served listings showed, as `list_files` tells them; or the `NoNative` for
+    /// The files that the served listings showed, as `list_files` reports them; or the `NoNative` for
     /// which there is no such list.
     pub files: Result<Vec<Listed>, ScanError>,
     /// The roots whose listings failed, one for each, in the order of the settings. The scan is
@@ -27,8 +27,8 @@ pub struct Listings {
     pub failed: Vec<Text>,
 }
 
-/// Lists the root of each glob once, in the order of the settings, also behind a listing that
-/// failed, and tells what the served listings showed together.
+/// Lists the root of each glob once, in the order of the settings, also after a listing that
+/// failed, and reports what the served listings showed together.
 ///
 /// `NoMemory` means out of memory, or more than 4,294,967,296 inputs.
 pub fn list_past_faults<F: Folder>(
@@ -154,7 +154,7 @@ fn try_globs<F: Folder>(
     Ok(())
 }
 
-/// Lists for a glob; where that fails it is kept.
+/// Lists for a glob; a listing that fails is kept.
 fn try_glob<F: Folder>(
     alloc: Global,
     folder: &mut F,

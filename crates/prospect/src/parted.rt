@@ -33,7 +33,7 @@ pub fn part_doubled(alloc: Global, listed: Vec<Listed>) -> Result<Parted, NoMemo
     Ok(parted)
 }
 
-/// Puts a file behind the others, where the keys are those of the files that are followed.
+/// Puts a file after the others, if the keys are those of the files that are followed.
 fn part_one(
     alloc: Global,
     keys: &mut BTreeSet<Text>,
@@ -52,7 +52,7 @@ fn part_one(
     Ok(())
 }
 
-/// Adds the key, and tells whether it is new; a file without a key is always new.
+/// Adds the key, and answers whether it is new; a file without a key is always new.
 fn add_key(alloc: Global, keys: &mut BTreeSet<Text>, key: &Option<Text>) -> Result<bool, NoMemory>
     ensures { IfOk result (λ added. AddsKey key.now keys.old keys.new added) }
 {

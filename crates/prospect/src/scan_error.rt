@@ -4,13 +4,13 @@ use std::error::Error;
 use std::fmt;
 use wire_base::{NoMemory, Text};
 
-/// Why a scan told no files.
+/// Why a scan gave no files.
 #[derive(Debug, Drop, PartialEq, Eq)]
 pub enum ScanError {
     /// A listing failed; the folder's count of faults rose in it.
     Failed,
     NoMemory,
-    /// An input knows its files by native numbers, and the listing told none for this path.
+    /// An input knows its files by native numbers, and the listing gave none for this path.
     NoNative { path: Text },
 }
 

@@ -6,9 +6,9 @@
 --   known, removed, and its input cleans             nothing
 --   known, removed, and its input does not clean     Returned
 --   known and present, under another path            Renamed, and then as in the next case
---   known and present                                Written where it is larger, Truncated where smaller, else nothing
+--   known and present                                Written if it is larger, Truncated if smaller, else nothing
 --
--- Then each present file that no member showed is Removed, where the scan is whole.
+-- Then each present file that no member showed is Removed, if the scan is whole.
 use Rattle.std.specs.Prelude.{ℕ, ◌+◌, nat_lt, Bool, true, false, not, ◌&&◌, List, [], ◌∷◌, ◌++◌, length, map, flat_map, slice_index_or, Option, Some, None, is_some, is_none, if◌then◌else◌}
 use Rattle.std.specs.Str.{bytes_eq}
 use Rattle.prospector_core.specs.declared.change.Change.{Change}
@@ -43,7 +43,7 @@ new_one files earlier member = if is_new files earlier member then member ∷ []
 abbrev pub new_members : List Known → List Seen → List Seen
 new_members files members = flat_map_with_earlier (new_one files) [] members
 
--- ---- what is told
+-- ---- what is reported
 
 abbrev pub path_changes : Known → Seen → List Change
 path_changes file member = if bytes_eq file.path member.path then [] else Renamed file.slot file.path member.path ∷ []

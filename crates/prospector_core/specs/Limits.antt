@@ -1,4 +1,4 @@
--- Where one file more is too many (this project's profile): 65,536 files are known or count besides, or 4,294,967,295
+-- When one file more is too many (this project's profile): 65,536 files are known or count besides, or 4,294,967,295
 -- slots were given. The files go first.
 use Rattle.std.specs.Prelude.{◌≡◌, ℕ, ◌+◌, nat_le, List, [], ◌∷◌, length, slice_get, Option, Some, None, if◌then◌else◌}
 use Rattle.prospector_core.specs.declared.prospect_error.ProspectError.{ProspectError}
@@ -16,7 +16,7 @@ pub record Refusal : Type 0 where
   pub what : Full
   pub path : List ℕ
 
--- the count that stands at its limit: of files, or of slots
+-- the count that is at its limit: of files, or of slots
 abbrev pub full_at : ℕ → ℕ → Option Full
 full_at files slots = if nat_le MAX_FILES files then Some Files else (if nat_le MAX_SLOTS slots then Some Slots else None)
 
@@ -36,7 +36,7 @@ member_refusal known earlier member =
 abbrev pub refusals : KnownFiles → List Seen → List Refusal
 refusals known seen = flat_map_with_earlier (member_refusal known) [] seen
 
--- the first of them is told; out of memory may come with any
+-- the first of them is reported; out of memory may come with any
 abbrev pub IsFirstRefusal : List Refusal → ProspectError → Type 0
 IsFirstRefusal found (TooMany what path) = slice_get found 0 ≡ Some (record { what = what; path = path })
 IsFirstRefusal found NoMemory = Unit {0}

@@ -20,7 +20,7 @@ files_of watched = map file_of watched
 abbrev pub keys_of : List Watched → List (List ℕ)
 keys_of watched = map (λ one. one.file.key) watched
 
--- the member's path where it is another
+-- the member's path if it is another
 abbrev pub other_path : Known → Seen → Option (List ℕ)
 other_path file member = if bytes_eq file.path member.path then None else Some member.path
 
@@ -66,7 +66,7 @@ cleared watched = record { file = watched.file; mark = Unseen; gone = false }
 
 -- ---- what is known of them
 
--- so many files count together, those of other inputs among them
+-- this many files count together, those of other inputs among them
 abbrev pub known_in : List Watched → ℕ → ℕ → KnownFiles
 known_in watched next count = record { files = files_of watched; next = next; others = count - length watched }
 

@@ -1,4 +1,4 @@
--- What the members of a scan so far told, and what stands ready for the files that they began.
+-- What the members of a scan so far reported, and what is ready for the files that they began.
 use Rattle.std.specs.Prelude.{◌≡◌, ◌≢◌, ◌⊎◌, ℕ, ◌+◌, ◌<◌, ◌≤◌, All, slice_index_or, slice_set, Bool, true, false, cond, List, [], ◌∷◌, ◌++◌, length, map, Some, None, is_some}
 use Rattle.std.specs.BTreeMap.{is_at}
 use Rattle.std.specs.BTreeSet.{contains}
@@ -25,7 +25,7 @@ use Rattle.wire_base.specs.KeyOrder.{compare}
 abbrev pub begun : Known → Watched
 begun file = record { file = file; mark = Held; gone = false }
 
--- all that was told and made by these members
+-- all that was reported and made by these members
 pub record IsToldBy (clean : List Bool) (known : KnownFiles) (seen : List Seen) (files : List Watched) (told : Told) : Type 0 where
   pub marks : files ≡ map (watched_by clean seen) known.files
   pub changes : told.changes.items ≡ flat_map_with_earlier (member_changes clean known) [] seen
@@ -66,7 +66,7 @@ IsRefusedStrange told member NoMemory = Unit {0}
 
 -- ---- one member
 
--- these changes were told, and no file began
+-- these changes were reported, and no file began
 pub record ToldMore (told : Told) (more : List Change) (later : Told) : Type 0 where
   pub changes : later.changes.items ≡ told.changes.items ++ more
   pub created : later.created.items ≡ told.created.items
@@ -104,7 +104,7 @@ RefusesMember files told member NoMemory = Unit {0}
 
 -- ---- all members
 
--- what the scan told, and the files with what it showed of each
+-- what the scan reported, and the files with what it showed of each
 pub record HasTold (scan : Scan) (known : KnownFiles) (files : List Watched) (told : Told) : Type 0 where
   pub marks : files ≡ map (watched_by scan.clean.now scan.seen.now) known.files
   pub changes : told.changes.items ≡ changes_between scan.clean.now scan.whole known scan.seen.now
@@ -113,7 +113,7 @@ pub record HasTold (scan : Scan) (known : KnownFiles) (files : List Watched) (to
   pub none_refused : refusals known scan.seen.now ≡ []
   pub few : length known.files + known.others + length (new_members known.files scan.seen.now) ≤ MAX_FILES
 
--- the same, with the files that it began behind the others
+-- the same, with the files that it began after the others
 pub record HasAdded (scan : Scan) (known : KnownFiles) (files : List Watched) (told : Told) : Type 0 where
   pub marks : files ≡ map (watched_by scan.clean.now scan.seen.now) known.files ++ map begun (created_files known.next (new_members known.files scan.seen.now))
   pub changes : told.changes.items ≡ changes_between scan.clean.now scan.whole known scan.seen.now

@@ -8,7 +8,7 @@ ghost use Rattle.wire_base.specs.KeyOrder.{compare};
 use crate::marks::Watched;
 use wire_base::{NoMemory, Slot};
 
-/// Where the file of this key stands.
+/// Where the file of this key is.
 pub fn place_of(watched: &[Watched], order: &[usize], key: &[u8]) -> Option<usize>
     requires { IsIndex (keys_of watched.now) order.now }
     ensures within { IfSome result (λ place. place < length watched.now) }
@@ -21,7 +21,7 @@ pub fn place_of(watched: &[Watched], order: &[usize], key: &[u8]) -> Option<usiz
     }
 }
 
-/// Where the file of this key stands, by the index where there is one for the files as they are, else by a look at each.
+/// Where the file of this key is, by the index if there is one for the files as they are, else by a look at each.
 pub fn place_by_key(
     watched: &[Watched],
     order: &[usize],
@@ -53,7 +53,7 @@ fn place_of_key(watched: &[Watched], key: &[u8]) -> Option<usize>
     None
 }
 
-/// Where the file of this slot stands.
+/// Where the file of this slot is.
 pub fn place_of_slot(watched: &[Watched], slot: Slot) -> Option<usize>
     requires { AreApart watched.now }
     ensures within { IfSome result (λ place. place < length watched.now) }
@@ -66,7 +66,7 @@ pub fn place_of_slot(watched: &[Watched], slot: Slot) -> Option<usize>
     }
 }
 
-/// Makes the index where there is none for the files as they are.
+/// Makes the index if there is none for the files as they are.
 pub fn need_index(
     watched: &[Watched],
     order: &mut Vec<usize>,
@@ -93,7 +93,7 @@ pub fn grow_index(watched: &[Watched], order: &mut Vec<usize>, grown: bool) -> b
     index_keys(watched, order).is_ok()
 }
 
-/// Takes memory only where there are more files than ever before.
+/// Takes memory only if there are more files than ever before.
 pub fn index_keys(watched: &[Watched], order: &mut Vec<usize>) -> Result<(), NoMemory>
     ensures { OnOk result (IsIndex (keys_of watched.now) order.new.items) }
 {
@@ -112,7 +112,7 @@ fn sort_places(watched: &[Watched], order: &mut Vec<usize>)
     order.sort_unstable_by(|a, b| key_at(watched, *a).cmp(key_at(watched, *b)));
 }
 
-/// The key at a place, and no byte where no file stands there.
+/// The key at a place, and no byte if no file is there.
 fn key_at(watched: &[Watched], place: usize) -> &[u8]
     ensures { result.now ≡ key_at (keys_of watched.now) place }
 {

@@ -7,7 +7,7 @@ use crate::{Change, Known, Seen};
 use std::alloc::Global;
 use wire_base::{NoMemory, Text};
 
-/// Tells what a member with the file's key says of it.
+/// Reports what a member with the file's key says of it.
 pub fn tell_known(
     alloc: Global,
     watched: &mut Watched,
@@ -32,7 +32,7 @@ pub fn tell_known(
     Ok(())
 }
 
-/// Tells what the first member with the file's key says of it, and marks the file.
+/// Reports what the first member with the file's key says of it, and marks the file.
 fn tell_first(
     alloc: Global,
     file: &Known,
@@ -95,7 +95,7 @@ fn tell_size(file: &Known, member: &Seen, changes: &mut Vec<Change>) -> Result<(
     Ok(())
 }
 
-/// The member's path where it is another.
+/// The member's path if it is another.
 fn other_path(alloc: Global, file: &Known, member: &Seen) -> Result<Option<Text>, NoMemory>
     ensures { IfOk result (λ path. path ≡ other_path file.now member.now) }
 {

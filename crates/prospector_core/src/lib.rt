@@ -1,9 +1,9 @@
 //! Which file is which from one scan to the next, and what has changed.
 //!
 //! A prospector remembers files by their keys. `compare` takes what one scan shows, in byte order of the paths, and
-//! tells what each member of it says: a file that is not known yet, one that was removed and is there again, one under
+//! reports what each member of it says: a file that is not known yet, one that was removed and is there again, one under
 //! another path, one that is longer or shorter than before, or a further path of a file that an earlier path showed
-//! already. After a whole scan it tells each file that the scan did not show.
+//! already. After a whole scan it reports each file that the scan did not show.
 //!
 //! Which changes there are between what is known and a scan, and what is known afterwards, are definitions of
 //! `specs/`. A refusal leaves what is known as it was. A scan of n members over m known files costs a logarithm of m

@@ -11,7 +11,7 @@ pub enum Mark {
     Unseen,
     /// Shown while it waits to be forgotten.
     Held,
-    /// Shown with this size, and under this path where it is another.
+    /// Shown with this size, and under this path if it is another.
     Shown { size: u64, path: Option<Text> },
 }
 

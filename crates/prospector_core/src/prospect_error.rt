@@ -6,7 +6,7 @@ use wire_base::{Full, NoMemory, Text};
 /// Why a scan was not compared.
 #[derive(Debug, Drop, PartialEq, Eq)]
 pub enum ProspectError {
-    /// A count stands at its limit and the file of this path needs one more.
+    /// A count is at its limit and the file of this path needs one more.
     TooMany { what: Full, path: Text },
     NoMemory,
 }

@@ -70,10 +70,10 @@ impl Prospector {
         })
     }
 
-    /// Tells what one scan says, and remembers it.
+    /// Reports what one scan says, and remembers it.
     ///
     /// `seen` is given in byte order of the paths, so that of several paths of one file the first is followed. `clean`
-    /// says of each input, by its number, whether its removed files are to be forgotten. A scan is `whole` where none of
+    /// says of each input, by its number, whether its removed files are to be forgotten. A scan is `whole` if none of
     /// its listings and no identity asked for it failed.
     pub fn compare(
         &mut self,
@@ -125,7 +125,7 @@ impl Prospector {
         self.some_gone = true;
     }
 
-    /// The known file of this slot. `None` exactly where there is none. Takes little time.
+    /// The known file of this slot. `None` exactly if there is none. Takes little time.
     pub fn file_of(&self, slot: Slot) -> Option<&Known>
         ensures found { IfSome result (λ file. Contains self.now.files file.now) }
         ensures of_slot { IfSome result (λ file. file.now.slot ≡ slot) }

@@ -25,7 +25,7 @@ pub struct Scan<'a> {
     pub whole: bool,
 }
 
-/// What the members of a scan so far told, and the files that they began.
+/// What the members of a scan so far reported, and the files that they began.
 #[derive(Drop)]
 pub struct Told {
     pub changes: Vec<Change>,
@@ -57,7 +57,7 @@ impl Told {
     }
 }
 
-/// Tells what a scan says of the files, so many of which count, and adds those that it began.
+/// Reports what a scan says of the files, this many of which count, and adds those that it began.
 pub fn tell_scan(
     alloc: Global,
     watched: &mut Vec<Watched>,
@@ -78,7 +78,7 @@ pub fn tell_scan(
     Ok(told)
 }
 
-/// Tells what a scan says of the files.
+/// Reports what a scan says of the files.
 fn tell_known_files(
     alloc: Global,
     watched: &mut [Watched],
@@ -101,7 +101,7 @@ fn tell_known_files(
     Ok(told)
 }
 
-/// Tells what each member says, in their order.
+/// Reports what each member says, in their order.
 fn tell_members(
     alloc: Global,
     watched: &mut [Watched],
@@ -144,7 +144,7 @@ fn tell_member(
     Ok(())
 }
 
-/// Tells what a member says of whose key no file is known.
+/// Reports what a member says if no file with its key is known.
 fn tell_strange(alloc: Global, member: &Seen, told: &mut Told) -> Result<(), ProspectError>
     ensures told { OnOk result (ToldStrange (contains compare told.old.keys member.now.key) told.old member.now told.new) }
     ensures refused { IfErr result (IsRefusedStrange told.old member.now) }
@@ -212,7 +212,7 @@ fn created_file(alloc: Global, slot: u32, member: &Seen) -> Result<Known, NoMemo
     })
 }
 
-/// Tells the files that no member showed, where the scan was whole.
+/// Reports the files that no member showed, if the scan was whole.
 fn tell_removed(watched: &[Watched], whole: bool, changes: &mut Vec<Change>) -> Result<(), NoMemory>
     ensures { OnOk result (changes.new.items ≡ changes.old.items ++ (if whole then flat_map unseen_removal watched.now else [])) }
 {

@@ -6,7 +6,7 @@ use Rattle.event_json.specs.Json.{quoted}
 use Rattle.wire_base.specs.declared.row.Op.{Op}
 use Rattle.wire_base.specs.declared.row.Op.TheVariants.{Set, Remove}
 
--- the first field, with a row's moment of change; there is none where the moment is 0
+-- the first field, with a row's moment of change; there is none if the moment is 0
 abbrev pub moment_bytes : ℕ → List ℕ
 moment_bytes moment = if moment == 0 then [] else codes "\"changed\":" ++ decimal moment ++ codes ","
 

@@ -8,11 +8,11 @@ use Rattle.wire_base.specs.declared.row.Row.{Row}
 use Rattle.wire_base.specs.declared.row.Op.{Op}
 use Rattle.wire_base.specs.declared.row.Op.TheVariants.{Set, Remove}
 
--- the first field, with a row's moment of change; there is none where the moment is 0
+-- the first field, with a row's moment of change; there is none if the moment is 0
 abbrev pub moment_tokens : ℕ → List Token
 moment_tokens moment = if moment == 0 then [] else (json.key (codes "changed") ∷ json.number (decimal moment) ∷ [])
 
--- the fields of a row behind its moment of change, from the epoch's number on
+-- the fields of a row after its moment of change, from the epoch's number on
 abbrev pub row_tokens : Row → List Token → List Token
 row_tokens row rest =
     json.number (decimal row.epoch.0)
@@ -39,7 +39,7 @@ list_tokens (op ∷ ops) = json.begin_object ∷ field_tokens op (list_tokens op
 abbrev pub body_tokens : List Op → List Token
 body_tokens ops = json.begin_array ∷ list_tokens ops
 
--- the text of a number, of a string and of a name, where the token is one
+-- the text of a number, of a string and of a name, if the token is one
 abbrev pub number_in : Token → Option (List ℕ)
 number_in (json.number text) = Some text
 number_in _ = None

@@ -41,7 +41,7 @@ pub fn set_text(alloc: Global, row: &Row) -> Result<String, NoMemory>
     )?)
 }
 
-/// The field of a row's moment of change, with the comma behind it; empty for a row that has none.
+/// The field of a row's moment of change, with the comma after it; empty for a row that has none.
 fn moment_text(alloc: Global, changed: Moment) -> Result<String, NoMemory>
     ensures { IfOk result (λ text. string_bytes text ≡ moment_bytes changed.0) }
 {

@@ -1,4 +1,4 @@
--- What the answer of a reading tells.
+-- What the answer of a reading says.
 use Rattle.std.specs.Prelude.{◌≡◌, ◌<◌, ◌≤◌, length}
 use Rattle.wire_base.specs.declared.numbers.TheConstants.{MAX_PLACE}
 use Rattle.registry_log.specs.declared.area.Area.{Area}

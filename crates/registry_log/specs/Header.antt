@@ -1,17 +1,17 @@
 -- The header of a registry area (this project's profile): at the places 1 to 7 `beat 1 ` or `beat 2 `, at 8 to 27 the
--- generation in decimal digits, from 1 to 2^64 - 1, and at 28 a line feed. The gate in front is no part of it.
+-- generation in decimal digits, from 1 to 2^64 - 1, and at 28 a line feed. The gate before it is no part of it.
 use Rattle.std.specs.Prelude.{◌≡◌, ℕ, ◌^◌, Bool, false, not, ◌&&◌, ◌||◌, ◌==◌, nat_lt, nat_le, if◌then◌else◌, List, find, slice_get, slice_index, Option, None, codes}
 use Rattle.std.specs.List.{list_all, range_with_len, slice_range}
 use Rattle.std.specs.Option.{option_map_or}
 use Rattle.std.specs.Str.Parse.{digits_value}
 
--- the byte may stand at the place
+-- the byte may be at the place
 abbrev pub may_stand : ℕ → ℕ → Bool
 may_stand place byte =
     if nat_lt place 8 then (byte == slice_index (codes "{beat 1 ") place) || (byte == slice_index (codes "{beat 2 ") place)
     else (if nat_lt place 28 then nat_le 48 byte && nat_le byte 57 else byte == 10)
 
--- the area has a byte at the place, and it may stand there
+-- the area has a byte at the place, and it may be there
 abbrev pub fits : List ℕ → ℕ → Bool
 fits area place = option_map_or (may_stand place) (slice_get area place) false
 

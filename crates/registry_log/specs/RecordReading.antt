@@ -29,7 +29,7 @@ pub record IsRecord (ops : List Op) (whole rest : List ℕ) : Type 0 where
   pub each : All IsStoredOp ops
   pub body : length (body_bytes ops) ≤ MAX_BODY
 
--- what stands at a gate, by the bytes from the gate on
+-- what is at a gate, by the bytes from the gate on
 abbrev pub IsHeadOf : Head → List ℕ → Type 0
 IsHeadOf heads.Absent bytes = bytes ≡ []
 IsHeadOf heads.Closed bytes = (gate : ℕ) × (rest : List ℕ) × (bytes ≡ gate ∷ rest) × (gate ≢ 0x7B)

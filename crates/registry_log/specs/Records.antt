@@ -1,4 +1,4 @@
--- The records of a registry area: operations cut into groups, each behind an open gate (this project's profile).
+-- The records of a registry area: operations cut into groups, each after an open gate (this project's profile).
 use Rattle.std.specs.Prelude.{ℕ, ◌-◌, ◌+◌, Bool, if◌then◌else◌, nat_le, List, [], ◌∷◌, ◌++◌, length, replicate, codes, decimal}
 use Rattle.std.specs.List.{flat_map}
 use Rattle.wire_base.specs.declared.row.Op.{Op}
@@ -20,7 +20,7 @@ record_bytes ops = record_of (body_bytes ops)
 abbrev pub fit_in_a_record : List Op → Bool
 fit_in_a_record ops = nat_le (length (body_bytes ops)) MAX_BODY
 
--- the groups of a group and of the operations behind it: the group takes the next operation where the two fit in a
+-- the groups of a group and of the operations after it: the group takes the next operation if the two fit in a
 -- record; else it is whole, and that operation begins the next group
 abbrev pub grouped : List Op → List Op → List (List Op)
 grouped group [] = group ∷ []
@@ -35,7 +35,7 @@ groups (op ∷ ops) = grouped (op ∷ []) ops
 abbrev pub records_bytes : List Op → List ℕ
 records_bytes ops = flat_map record_bytes (groups ops)
 
--- ---- for private clauses: the records that operations make behind a body without its last bracket
+-- ---- for private clauses: the records that operations make after a body without its last bracket
 
 abbrev pub records_behind : List ℕ → List Op → List ℕ
 records_behind body [] = record_of (body ++ codes "]")

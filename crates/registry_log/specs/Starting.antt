@@ -3,7 +3,7 @@ use Rattle.std.specs.Prelude.{◌≡◌, ◌≢◌, ◌⊎◌, ℕ, ◌≤◌, L
 use Rattle.wire_base.specs.declared.row.Row.{Row}
 use Rattle.registry_log.specs.Area.{area_bytes}
 
--- it has no byte behind its gate
+-- it has no byte after its gate
 abbrev pub IsBlank : List ℕ → Type 0
 IsBlank area = length area ≤ 1
 
@@ -20,12 +20,12 @@ IsShut before area = (area ≡ before) ⊎ (IsBlank area ⊎ IsClosed area)
 abbrev pub IsPartWritten : List ℕ → List ℕ → List ℕ → Type 0
 IsPartWritten bytes before area = IsShut before area ⊎ (area ≡ bytes)
 
--- an area that held `before` and is started with a generation and rows: where it is opened and not as before, it holds
+-- an area that held `before` and is started with a generation and rows: if it is opened and not as before, it holds
 -- exactly these
 abbrev pub IsPartStarted : ℕ → List Row → List ℕ → List ℕ → Type 0
 IsPartStarted generation rows = IsPartWritten (area_bytes generation rows)
 
--- the contents are told, and are of this kind
+-- the contents are known, and are of this kind
 abbrev pub Holds : (List ℕ → Type 0) → Option (List ℕ) → Type 0
 Holds Kind None = ⊥
 Holds Kind (Some area) = Kind area

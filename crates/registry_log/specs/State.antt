@@ -1,7 +1,7 @@
 -- The state of a registry area by all of its bytes (this project's profile). An area of at most one byte is blank, and one
--- whose first byte is no `{` is closed. Else it is opened where its header is right and records follow up to a gate that
--- is there and is not open; what stands behind that gate is not looked at. Else it is broken: at the first byte of the
--- header that is absent or wrong, or at the open gate behind which no record follows, or where a gate is absent.
+-- whose first byte is no `{` is closed. Else it is opened if its header is right and records follow up to a gate that
+-- is there and is not open; what follows that gate is not looked at. Else it is broken: at the first byte of the
+-- header that is absent or wrong, or at the open gate after which no record follows, or at the place where a gate is absent.
 use Rattle.std.specs.Prelude.{◌≡◌, ◌≢◌, ◌⊎◌, ℕ, ◌+◌, ◌<◌, List, [], ◌∷◌, ◌++◌, length, drop, slice_get, Some}
 use Rattle.std.specs.List.{flat_map}
 use Rattle.wire_base.specs.declared.row.Op.{Op}
@@ -28,7 +28,7 @@ pub record IsUnclosed (area : List ℕ) : Type 0 where
   pub gate : slice_get area 0 ≡ Some 0x7B
   pub more : 1 < length area
 
--- the header is right, and behind it these records follow and then `rest`, which begins at `place`
+-- the header is right, and after it these records follow and then `rest`, which begins at `place`
 pub record Reaches (area : List ℕ) (generation : ℕ) (records : List (List Op)) (place : ℕ) (rest : List ℕ) : Type 0 where
   pub unclosed : IsUnclosed area
   pub header : HasHeader area generation
@@ -52,7 +52,7 @@ pub record LacksRecord (area : List ℕ) (at : ℕ) : Type 0 where
   pub reaches : Reaches area generation records at (0x7B ∷ rest)
   pub no_record : ¬ BeginsWithRecord (operations_of records) (0x7B ∷ rest)
 
--- the area ends where a gate is to stand
+-- the area ends where a gate is to be
 pub record LacksGate (area : List ℕ) (at : ℕ) : Type 0 where
   pub generation : ℕ
   pub records : List (List Op)

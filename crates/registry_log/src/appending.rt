@@ -17,10 +17,10 @@ use registry_frame::body;
 use std::alloc::Global;
 use wire_base::{MAX_PLACE, NoMemory, Op};
 
-/// Appends a record with these operations to an area whose last gate stands at `end`, and answers the place of the new last
+/// Appends a record with these operations to an area whose last gate is at `end`, and answers the place of the new last
 /// gate.
 ///
-/// The record is on the disk, behind a gate that is closed, before that gate opens. All memory is taken before the disk is
+/// The record is on the disk, after a gate that is closed, before that gate opens. All memory is taken before the disk is
 /// called. The operations are those that one body may hold; the caller cuts a longer list.
 pub fn append<D: Disk>(alloc: Global, disk: &mut D, end: u64, ops: &[Op]) -> Result<u64, LogError>
     requires some { ops.now ≢ [] }
@@ -63,7 +63,7 @@ pub fn append<D: Disk>(alloc: Global, disk: &mut D, end: u64, ops: &[Op]) -> Res
     append_body(alloc, disk, end, ops, body.bytes())
 }
 
-/// As `append`, where the body of the record is made already. It is not longer than one body may be.
+/// As `append`, if the body of the record is made already. It is not longer than one body may be.
 pub fn append_body<D: Disk>(
     alloc: Global,
     disk: &mut D,
@@ -106,7 +106,7 @@ pub fn append_body<D: Disk>(
     Ok(end + text.len() as u64)
 }
 
-/// A record behind its gate, and a closed gate behind it.
+/// A record after its gate, and a closed gate after it.
 fn record_text(alloc: Global, body: &[u8]) -> Result<Vec<u8>, NoMemory>
     ensures { IfOk result (λ text. 0x7B ∷ text.items ≡ record_of body.now ++ codes ".") }
 {

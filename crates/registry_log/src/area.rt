@@ -61,7 +61,7 @@ pub fn read_area<D: Disk>(alloc: Global, disk: &mut D) -> Result<Area, LogError>
     }
 }
 
-/// Reads an area from behind its header on.
+/// Reads an area from the end of its header on.
 fn read_opened<D: Disk>(
     alloc: Global,
     disk: &mut D,

@@ -53,7 +53,7 @@ impl AreaText {
     }
 }
 
-/// All of the area behind its first gate.
+/// All of the area after its first gate.
 pub(crate) fn area_text(alloc: Global, generation: u64, rows: &Rows) -> Result<Vec<u8>, NoMemory>
     requires generation { 0 < generation }
     requires rows { length rows.now ≤ 65_536 }

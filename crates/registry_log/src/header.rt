@@ -59,7 +59,7 @@ fn may_stand(place: usize, byte: u8) -> bool
     }
 }
 
-/// `None` exactly where the number of these digits is 0 or above 2^64 - 1.
+/// `None` exactly if the number of these digits is 0 or above 2^64 - 1.
 fn read_generation(digits: &[u8]) -> Option<u64>
     requires some { 0 < length digits.now }
     requires digits { All IsAsciiDigit digits.now }
@@ -71,7 +71,7 @@ fn read_generation(digits: &[u8]) -> Option<u64>
     }
 }
 
-/// `None` exactly where the number of these digits is above 2^64 - 1.
+/// `None` exactly if the number of these digits is above 2^64 - 1.
 pub(crate) fn read_number(digits: &[u8]) -> Option<u64>
     requires some { 0 < length digits.now }
     requires digits { All IsAsciiDigit digits.now }

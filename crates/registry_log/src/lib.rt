@@ -1,11 +1,11 @@
-//! One registry area: a header and records behind gates, written so that a crash leaves it readable or shut.
+//! One registry area: a header and records after gates, written so that a crash leaves it readable or shut.
 //!
-//! An area is started with a generation and the rows that the registry has. Everything behind the first gate is on the
-//! disk before that gate opens, and what stood there before is gone before anything is written. So a crash at any moment
+//! An area is started with a generation and the rows that the registry has. Everything after the first gate is on the
+//! disk before that gate opens, and what was there before is gone before anything is written. So a crash at any moment
 //! leaves the area as it was, blank, closed, or with exactly these rows.
 //!
-//! A record is appended in the same way: it is on the disk behind a closed gate before that gate opens, so a crash leaves
-//! the rows before it or the rows after it. No checksum is needed. Reading tells exactly the state of the bytes that the
+//! A record is appended in the same way: it is on the disk after a closed gate before that gate opens, so a crash leaves
+//! the rows before it or the rows after it. No checksum is needed. Reading reports exactly the state of the bytes that the
 //! disk gives: blank, closed, opened with its rows, or broken at a place. Bytes and states of an area are definitions of
 //! `specs/` over whole byte lists; reading goes in blocks.
 #![tactic(auto)]

@@ -11,10 +11,10 @@ use registry_frame::{BodyError, read_body};
 use std::alloc::Global;
 use wire_base::{NoMemory, Op};
 
-/// The bytes of a record in front of its body: the gate, the body's length in seven digits, and a space.
+/// The bytes of a record before its body: the gate, the body's length in seven digits, and a space.
 pub(crate) const RECORD_HEAD: usize = 9;
 
-/// What stands at a gate.
+/// What is at a gate.
 #[derive(Clone, Copy, Drop)]
 pub(crate) enum Head {
     /// The area ends here.
@@ -26,7 +26,7 @@ pub(crate) enum Head {
     Length(usize),
 }
 
-/// Reads what stands at a gate from the bytes from the gate on, of which `RECORD_HEAD` are enough.
+/// Reads what is at a gate from the bytes from the gate on, of which `RECORD_HEAD` are enough.
 pub(crate) fn read_head(bytes: &[u8]) -> Head
     ensures { IsHeadOf result bytes.now }
 {
@@ -48,7 +48,7 @@ pub(crate) fn read_head(bytes: &[u8]) -> Head
     }
 }
 
-/// `None` exactly where these are not the seven digits of a body's length.
+/// `None` exactly if these are not the seven digits of a body's length.
 fn read_size(digits: &[u8]) -> Option<usize>
     requires { length digits.now ≡ 7 }
     ensures { MatchOption result ((size : ℕ) → size ≤ MAX_BODY → ¬ (digits.now ≡ padded 7 size)) (λ size. (size ≤ MAX_BODY) × (digits.now ≡ padded 7 size)) }
@@ -71,7 +71,7 @@ fn are_digits(bytes: &[u8]) -> bool
     bytes.iter().all(|byte| byte.is_ascii_digit())
 }
 
-/// The operations of the record whose head says this length of a body; `None` exactly where no record stands there. All
+/// The operations of the record whose head says this length of a body; `None` exactly if no record is there. All
 /// bytes of the record are enough.
 pub(crate) fn read_operations(
     alloc: Global,

@@ -15,7 +15,7 @@ use ship_core::Rows;
 use std::alloc::Global;
 use wire_base::{NoMemory, Op};
 
-/// So many rows a registry has at most.
+/// How many rows a registry has at most.
 pub const MAX_ROWS: usize = 65_536;
 
 /// Where and how the records of an area end.
@@ -49,7 +49,7 @@ pub(crate) fn read_records<D: Disk>(
     }
 }
 
-/// Reads one record and applies it; or tells that the records end here.
+/// Reads one record and applies it; or reports that the records end here.
 fn read_record<D: Disk>(
     alloc: Global,
     disk: &mut D,

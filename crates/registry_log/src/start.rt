@@ -65,7 +65,7 @@ pub fn start_area<D: Disk>(
     }
 }
 
-/// Writes all that stands behind the first gate, and then opens it.
+/// Writes all that follows the first gate, and then opens it.
 fn write_area<D: Disk>(disk: &mut D, bytes: &[u8]) -> Result<(), Failed>
     ensures written { OnOk result (IfSome (D.contents disk.old) (λ before. D.contents disk.new ≡ Some (0x7B ∷ bytes.now))) }
     ensures durable { OnOk result (Only (D.contents disk.new) (D.images disk.new)) }
@@ -108,7 +108,7 @@ fn is_closed<D: Disk>(disk: &mut D) -> Result<bool, Failed>
     Ok(count == 1 && gate != *b"{")
 }
 
-/// Takes away all that stands behind a closed gate.
+/// Takes away all that follows a closed gate.
 fn cut_to_gate<D: Disk>(disk: &mut D) -> Result<(), Failed>
     ensures cut { OnOk result (Holds IsClosed (D.contents disk.old) → Holds (λ area. IsClosed area × IsBlank area) (D.contents disk.new)) }
     ensures settled { OnOk result (Only (D.contents disk.old) (D.images disk.old) → Only (D.contents disk.new) (D.images disk.new)) }

@@ -8,7 +8,7 @@ use crate::LogError;
 use outside::Disk;
 use std::alloc::Global;
 
-/// So many bytes are asked of the disk at once.
+/// How many bytes are asked of the disk at once.
 const BLOCK: usize = 16_384;
 
 /// The bytes of an area that were read and not yet passed over.
@@ -111,7 +111,7 @@ fn read_up_to<D: Disk>(
     Ok(())
 }
 
-/// Adds what one call of the disk gives, and answers how much that was; nothing is at the area's end alone.
+/// Adds what one call of the disk gives, and answers how much that was; it is nothing only at the area's end.
 fn read_block<D: Disk>(disk: &mut D, bytes: &mut Vec<u8>, place: u64) -> Result<usize, LogError>
     requires in_range { IsPlace (place + vec_len bytes.old) }
     ensures in_range { IsPlace (place + vec_len bytes.new) }

@@ -1,4 +1,4 @@
--- What the answer of a choice tells.
+-- What the answer of a choice says.
 use Rattle.std.specs.Prelude.{◌≡◌, ◌<◌, ◌≤◌, length}
 use Rattle.wire_base.specs.declared.numbers.TheConstants.{MAX_PLACE}
 use Rattle.registry_log.specs.declared.log_error.LogError.{LogError}
@@ -20,7 +20,7 @@ abbrev pub IsPickWithin : Pick → Type 0
 IsPickWithin answers.Fresh = Unit {0}
 IsPickWithin (answers.Chosen area generation rows start end) = (start ≡ 29) × (end < MAX_PLACE) × (length rows ≤ 65_536)
 
--- what is told of a refusal of one area; reading never meets a record that is too long
+-- what is reported of a refusal of one area; reading never hits a record that is too long
 abbrev pub pick_error_of : LogError → PickError
 pick_error_of log.DiskFault = picking.DiskFault
 pick_error_of log.RecordTooLong = picking.NoMemory
@@ -31,7 +31,7 @@ store_error_of_pick (picking.Bad area at) = storing.Bad area at
 store_error_of_pick picking.DiskFault = storing.DiskFault
 store_error_of_pick picking.NoMemory = storing.NoMemory
 
--- what is told of a refusal of one area; the operations of a record always fit
+-- what is reported of a refusal of one area; the operations of a record always fit
 abbrev pub store_error_of : LogError → StoreError
 store_error_of log.DiskFault = storing.DiskFault
 store_error_of log.RecordTooLong = storing.NoMemory

@@ -14,7 +14,7 @@ pub record HoldsOpened {D : Type 0} (contents : D → Option (List ℕ)) (images
   pub settled : Only (contents disk) (images disk)
   pub opened : IsOpened area generation rows end
 
--- an area is opened with the rows after so many of the operations, from the first one on
+-- an area is opened with the rows after this many of the operations, from the first one on
 pub record IsOpenedWithSome (generation : ℕ) (rows : List Row) (ops : List Op) (area : List ℕ) : Type 0 where
   pub count : ℕ
   pub end : ℕ

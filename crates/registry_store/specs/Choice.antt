@@ -1,7 +1,7 @@
 -- The choice between the areas A and B (this project's profile). Of the areas that are opened the one with the greater
--- generation is used, and A where both have the same. Where none is opened, the registry is empty if B is blank and A is
--- blank or closed. Else it is refused: as area A, at its place, where A is broken; else as area B, at its place where B
--- is broken, and at 0 where it is closed. The versions do not matter.
+-- generation is used, and A if both have the same. If none is opened, the registry is empty if B is blank and A is
+-- blank or closed. Else it is refused: as area A, at its place, if A is broken; else as area B, at its place if B
+-- is broken, and at 0 if it is closed. The versions do not matter.
 use Rattle.std.specs.Prelude.{◌≡◌, ℕ, nat_lt, if◌then◌else◌, List, [], Option, Some, None}
 use Rattle.wire_base.specs.declared.limits.Which.{Which}
 use Rattle.wire_base.specs.declared.limits.Which.TheVariants.{A, B}
@@ -42,7 +42,7 @@ pub record IsChoice (first second : List ℕ) (choice : Choice) : Type 0 where
   pub second_is : IsState second second_state
   pub chosen : chosen_area first_state second_state ≡ choice
 
--- the rows that a choice gives; none where it refuses the registry
+-- the rows that a choice gives; none if it refuses the registry
 abbrev pub rows_of : Choice → Option (List Row)
 rows_of Fresh = Some []
 rows_of (Chosen area generation rows start end) = Some rows
@@ -56,7 +56,7 @@ pub record GivesRows (first second : List ℕ) (rows : List Row) : Type 0 where
 
 -- ---- for private clauses
 
--- what is chosen where one area's state decides
+-- what is chosen if one area's state decides
 abbrev pub decided : Which → State → Choice
 decided area (Opened generation rows start end) = Chosen area generation rows start end
 decided area (Broken at) = Refused area at

@@ -12,7 +12,7 @@ abbrev pub other_area : Which → Which
 other_area A = B
 other_area B = A
 
--- the area that is written, where this one is used and a checkpoint is due or not
+-- the area that is written, if this one is used and a checkpoint is due or not
 abbrev pub written_of : Which → Bool → Which
 written_of area true = other_area area
 written_of area false = area

@@ -8,7 +8,7 @@ use Rattle.registry_log.specs.Area.{area_bytes}
 use Rattle.registry_store.specs.Choice.{Choice, Fresh, Chosen, IsChoice}
 use Rattle.registry_store.specs.Sides.{written_of}
 
--- `start` is the place of the first gate behind the checkpoint, and `end` that of the last gate; a store is closed once a
+-- `start` is the place of the first gate after the checkpoint, and `end` that of the last gate; a store is closed once a
 -- commit has failed
 pub record Standing : Type 0 where
   pub area : Which
@@ -18,7 +18,7 @@ pub record Standing : Type 0 where
   pub end : ℕ
   pub closed : Bool
 
--- what the areas choose while a store stands so; an area that is read has its first gate at 29
+-- what the areas choose while a store is like this; an area that is read has its first gate at 29
 abbrev pub chosen_by : Standing → Choice
 chosen_by store = Chosen store.area store.generation store.rows 29 store.end
 
@@ -39,7 +39,7 @@ written_area store ops = written_of store.area (is_due store ops)
 abbrev pub generation_after : Standing → List Op → ℕ
 generation_after store ops = if is_due store ops then store.generation + 1 else store.generation
 
--- the place of the first gate behind the checkpoint, after a commit
+-- the place of the first gate after the checkpoint, after a commit
 abbrev pub start_after : Standing → List Op → ℕ
 start_after store ops = if is_due store ops then length (area_bytes (store.generation + 1) store.rows) - 1 else store.start
 

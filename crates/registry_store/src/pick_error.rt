@@ -20,7 +20,7 @@ impl From<LogError> for PickError {
 
     ghost from_gives = { λ log e. e ≡ pick_error_of log };
 
-    /// Reading meets no record that is too long.
+    /// Reading hits no record that is too long.
     fn from(error: LogError) -> Self {
         match error {
             LogError::DiskFault => PickError::DiskFault,

@@ -35,7 +35,7 @@ pub fn pick<D: Disk>(alloc: Global, a: &mut D, b: &mut D) -> Result<Pick, PickEr
     }
 }
 
-/// The area whose state alone decides.
+/// The area whose state decides by itself.
 fn deciding_area(first: &Area, second: &Area) -> Which
     ensures { chosen_area (state_of first.now) (state_of second.now) ≡ decided result (of_area result (state_of first.now) (state_of second.now)) }
 {
@@ -62,7 +62,7 @@ fn deciding_area(first: &Area, second: &Area) -> Which
     }
 }
 
-/// What is chosen where this area decides.
+/// What is chosen if this area decides.
 fn answer_of(area: Which, read: Area) -> Result<Pick, PickError>
     requires { IsWithin read }
     ensures chosen { IfOk result (λ picked. decided area (state_of read) ≡ choice_of picked) }

@@ -13,7 +13,7 @@ use registry_log::{LogError, MAX_BODY, append_body};
 use std::alloc::Global;
 use wire_base::{MAX_PLACE, Op};
 
-/// Appends the operations to an area whose last gate stands at `end`, cut into records, and answers the place of the new
+/// Appends the operations to an area whose last gate is at `end`, cut into records, and answers the place of the new
 /// last gate.
 pub(crate) fn append_all<D: Disk>(
     alloc: Global,

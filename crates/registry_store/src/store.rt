@@ -22,8 +22,8 @@ use std::alloc::Global;
 use std::marker::Model;
 use wire_base::{NoMemory, Op, Which};
 
-/// The rows of the registry, and where they stand on the disks: seen as the area that is used, its generation, its rows, the
-/// places of its first gate behind the checkpoint and of its last gate, and whether a commit has failed.
+/// The rows of the registry, and where they are on the disks: seen as the area that is used, its generation, its rows, the
+/// places of its first gate after the checkpoint and of its last gate, and whether a commit has failed.
 #[derive(Debug, Drop)]
 pub struct Store {
     used: Used,
@@ -44,7 +44,7 @@ impl Model for Store {
 }
 
 impl Store {
-    /// Opens the registry by the area that is chosen; where it is empty, area A is started with the generation 1 and no row.
+    /// Opens the registry by the area that is chosen; if it is empty, area A is started with the generation 1 and no row.
     ///
     /// As it begins nothing is to be pending on the disks: they are as a restart finds them.
     pub fn open<D: Disk>(alloc: Global, a: &mut D, b: &mut D) -> Result<Store, StoreError>

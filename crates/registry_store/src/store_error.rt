@@ -6,7 +6,7 @@ use wire_base::{NoMemory, Which};
 /// Why a store was not opened, or did not commit.
 #[derive(Clone, Copy, Debug, PartialEq, Eq, Error)]
 pub enum StoreError {
-    /// No area is opened, and this one is broken at the place, or closed (at 0). From `Store::open` alone.
+    /// No area is opened, and this one is broken at the place, or closed (at 0). Only from `Store::open`.
     #[error("registry area {area:?} is bad at {at}")]
     Bad { area: Which, at: u64 },
     #[error("a disk failed")]

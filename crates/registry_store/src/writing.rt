@@ -21,7 +21,7 @@ use ship_core::Rows;
 use std::alloc::Global;
 use wire_base::{MAX_PLACE, Op, Which};
 
-/// A checkpoint starts where the part of an area past its checkpoint is longer, in bytes.
+/// A checkpoint starts if the part of an area past its checkpoint is longer, in bytes.
 pub const MAX_PAST_START: u64 = 10_485_760;
 
 /// The area that is used.
@@ -29,7 +29,7 @@ pub const MAX_PAST_START: u64 = 10_485_760;
 pub(crate) struct Used {
     pub(crate) area: Which,
     pub(crate) generation: u64,
-    /// the place of the first gate behind the checkpoint
+    /// the place of the first gate after the checkpoint
     pub(crate) start: u64,
     /// the place of the last gate
     pub(crate) end: u64,
@@ -132,7 +132,7 @@ pub(crate) fn write_areas<D: Disk>(
     }
 }
 
-/// A checkpoint, and the operations behind it. Answers the places of the first gate behind the checkpoint and of the last.
+/// A checkpoint, and the operations after it. Answers the places of the first gate after the checkpoint and of the last.
 pub(crate) fn write_anew<D: Disk>(
     alloc: Global,
     into: &mut D,

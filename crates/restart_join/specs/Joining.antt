@@ -18,7 +18,7 @@ use Rattle.wire_base.specs.declared.limits.Full.TheVariants.{Files, Epochs, Slot
 use Rattle.wire_base.specs.declared.note.Begin.{Begin}
 use Rattle.wire_base.specs.declared.row.Row.{Row}
 
--- the member where no earlier one has its key
+-- the member if no earlier one has its key
 abbrev pub first_one : List Seen → Seen → List Seen
 first_one earlier member = if is_some (first_with member.key earlier) then [] else member ∷ []
 
@@ -51,7 +51,7 @@ begins_of rows first members = flat_map_with_earlier (member_begin rows first) [
 abbrev pub new_keys : List Row → List Seen → ℕ
 new_keys rows members = length (filter (λ member. is_none (find member.key rows)) (first_ones members))
 
--- so many rows and files without one count, so many slots were given: files without a row add to the files, a file that
+-- this many rows and files without one count, this many slots were given: files without a row add to the files, a file that
 -- is shorter than its row's offset needs a further epoch, and each takes a slot
 abbrev pub full_slots : ℕ → Option Full
 full_slots slots = if nat_le MAX_SLOTS slots then Some Slots else None

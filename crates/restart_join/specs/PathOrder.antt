@@ -1,4 +1,4 @@
--- The members of a scan in byte order of their paths; members of one path stand as they were given.
+-- The members of a scan in byte order of their paths; members of one path stay as they were given.
 use Rattle.std.specs.Prelude.{ℕ, List, [], length, map, slice_get, slice_index_or}
 use Rattle.std.specs.List.{filter_map, range_with_len}
 use Rattle.std.specs.List.Sorted.{IsPermutation, IsSortedBy}

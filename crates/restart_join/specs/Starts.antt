@@ -1,5 +1,5 @@
 -- Where a file goes on (Filebeat reference, filestream input and its registry; this project's profile): at its row's
--- epoch and offset where it is at least as long, else at the next epoch and 0, and without a row at epoch 0 and 0.
+-- epoch and offset if it is at least as long, else at the next epoch and 0, and without a row at epoch 0 and 0.
 use Rattle.std.specs.Prelude.{ℕ, ◌+◌, nat_le, Option, Some, None, if◌then◌else◌}
 use Rattle.restart_join.specs.declared.start.Start.{Start}
 use Rattle.wire_base.specs.declared.row.Row.{Row}

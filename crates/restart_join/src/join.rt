@@ -20,7 +20,7 @@ use wire_base::{Begin, Epoch, NoMemory, Slot, Text};
 /// The files with which a run begins: one for each key that its first scan shows, by the key's first path in byte
 /// order, with slots from `first` on in that order.
 ///
-/// `TooMany` names what stands at its limit, and the path of the first file that needs one more: files, counted with
+/// `TooMany` names what is at its limit, and the path of the first file that needs one more: files, counted with
 /// all rows and with each key of the scan that has none; epochs, where a file is shorter than its row's offset; slots.
 pub fn join_rows(
     alloc: Global,
@@ -67,7 +67,7 @@ impl Joined {
     }
 }
 
-/// Begins the members at these places, one behind the other.
+/// Begins the members at these places, one after another.
 fn join_members(
     alloc: Global,
     rows: &Rows,
@@ -87,7 +87,7 @@ fn join_members(
     Ok(())
 }
 
-/// Begins a member where it is the first of its key.
+/// Begins a member if it is the first of its key.
 fn join_member(
     alloc: Global,
     rows: &Rows,

@@ -7,7 +7,7 @@ use prospector_core::Seen;
 use std::alloc::Global;
 use wire_base::NoMemory;
 
-/// The places of the members in byte order of their paths, those of one path in the order in which they stand.
+/// The places of the members in byte order of their paths, those of one path in the order in which they are.
 pub fn path_order(alloc: Global, seen: &[Seen]) -> Result<Vec<usize>, NoMemory>
     ensures in_order { IfOk result (λ order. InPathOrder seen.now order.items) }
     ensures places { IfOk result (λ order. All (λ place. place < length seen.now) order.items) }
@@ -27,7 +27,7 @@ fn sort_places(seen: &[Seen], order: &mut Vec<usize>)
     order.sort_unstable_by(|a, b| path_at(seen, *a).cmp(path_at(seen, *b)).then(a.cmp(b)));
 }
 
-/// The path at a place, and no byte where no member stands there.
+/// The path at a place, and no byte if no member is there.
 fn path_at(seen: &[Seen], place: usize) -> &[u8]
     ensures { result.now ≡ path_at (paths_of seen.now) place }
 {

@@ -17,7 +17,7 @@ pub struct Start {
     pub base: u64,
 }
 
-/// Where the file of this row and size goes on, where so many files count and so many slots were given; or what there
+/// Where the file of this row and size goes on, if this many files count and this many slots were given; or what there
 /// is too much of.
 pub fn start_of(row: Option<&Row>, size: u64, files: usize, slots: u32) -> Result<Start, Full>
     ensures started { IfOk result (λ start. start ≡ start_of size (option_copied row.entry)) }

@@ -1,5 +1,5 @@
 -- Which notes are posted (this project's profile): announcements, settlements and forgettings. How a file begins, what
--- it is renamed to and when it last changed is told to the keeper itself, between two rounds.
+-- it is renamed to and when it last changed is reported to the keeper itself, between two rounds.
 use Rattle.wire_base.specs.declared.note.Note.{Note}
 use Rattle.wire_base.specs.declared.note.Note.TheVariants.{Begin, Announce, Settle, Rename, Seen, Forget}
 

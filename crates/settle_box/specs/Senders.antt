@@ -39,7 +39,7 @@ abbrev pub notes_of : List ℕ → List Sent → List Note
 notes_of name [] = []
 notes_of name (s ∷ all) = if same_name name s.from then s.note ∷ notes_of name all else notes_of name all
 
--- 1 where the sender has this name
+-- 1 if the sender has this name
 abbrev pub has_name : List ℕ → Sender → ℕ
 has_name name s = if same_name name s.name then 1 else 0
 

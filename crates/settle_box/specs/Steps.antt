@@ -1,4 +1,4 @@
--- What the steps of the box tell the pass that makes them (this project's profile).
+-- What the steps of the box report to the pass that makes them (this project's profile).
 use Rattle.std.specs.Prelude.{◌≡◌, ℕ, List, [], ◌∷◌, ◌++◌, All, Some, None}
 use Rattle.wire_base.specs.declared.note.Note.{Note}
 use Rattle.wire_base.specs.Ranges.{IsNote}
@@ -9,7 +9,7 @@ use Rattle.settle_box.specs.InOrder.{IsInOrder}
 use Rattle.settle_box.specs.Notes.{IsPostable}
 use Rattle.settle_box.specs.Senders.{notes, sent, with_note}
 
--- a post puts the note behind all that its sender posted
+-- a post puts the note after all that its sender posted
 abbrev pub PostsBehind : Hand → Note → Hand → Type 0
 PostsBehind v note w = w ≡ hand v.posts v.collects (with_note (first_of v.senders) note ∷ others_of v.senders) v.got None
 
@@ -20,7 +20,7 @@ pub record CollectsFirst (v : Hand) (note : Note) (w : Hand) : Type 0 where
   pub range : IsNote note
   pub is : w ≡ hand v.posts v.collects v.senders (v.got ++ sent from note ∷ []) None
 
--- the first collect of a closed box tells exactly what is left
+-- the first collect of a closed box reports exactly what is left
 pub record EndsAt (v : Hand) (note : Note) (w : Hand) : Type 0 where
   pub ahead : Sent
   pub rest : List Sent
@@ -30,7 +30,7 @@ pub record EndsAt (v : Hand) (note : Note) (w : Hand) : Type 0 where
   pub ranges : All IsNote (notes (ahead ∷ rest))
   pub is : w.rest ≡ Some (ahead ∷ rest)
 
--- what the pass of a closed box learns of what the box holds: it is what is behind the note taken ahead
+-- what the pass of a closed box learns of what the box holds: it is what follows the note taken ahead
 pub record HoldsBehind (v : Hand) (items : List Note) : Type 0 where
   pub ahead : Sent
   pub rest : List Sent

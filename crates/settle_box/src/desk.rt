@@ -51,7 +51,7 @@ impl SettleBox {
         ))
     }
 
-    /// Posts the note behind all others. It comes back only where the box was full at a step of this
+    /// Posts the note after all others. It comes back only if the box was full at a step of this
     /// call.
     pub fn post<R: Wait>(&self, rt: &R, pass: &mut PostPass, note: Note) -> Result<(), Note>
         requires of_this_box { pass.old.desk ≡ self.now.id }
@@ -71,7 +71,7 @@ impl SettleBox {
         }
     }
 
-    /// Collects the first note. `None` only where the box was empty at a step of this call.
+    /// Collects the first note. `None` only if the box was empty at a step of this call.
     pub fn collect<R: Wait>(&self, rt: &R, pass: &mut CollectPass) -> Option<Note>
         requires { pass.old.desk ≡ self.now.id }
         ensures collected_first { IfSome result (λ note. (from : List ℕ) ×

@@ -14,7 +14,7 @@ use wire_base::Note;
 pub struct Left {
     pub(crate) ring: Ring,
     pub(crate) pass: Pass<Note, Hand>,
-    /// Taken ahead: only as it takes a note does a pass learn exactly what is behind it.
+    /// Taken ahead: only as it takes a note does a pass learn exactly what follows it.
     pub(crate) next: Option<Note>,
 }
 
@@ -33,7 +33,7 @@ impl Model for Left {
 }
 
 impl Left {
-    /// The first note that is left. `None` exactly where nothing is left. Takes no memory.
+    /// The first note that is left. `None` exactly if nothing is left. Takes no memory.
     pub fn next<R: Wait>(&mut self, rt: &R) -> Option<Note>
         ensures first { IfSome result (λ note. (from : List ℕ) × (self.old ≡ sent from note ∷ self.new)) }
         ensures kind { IfSome result (λ note. IsPostable note) }

@@ -7,8 +7,8 @@
 //! collected of a name, and then what the box holds of it, is what was posted under it.
 //!
 //! Announcements, settlements and forgettings are posted, and nothing else. No call after
-//! `SettleBox::new` takes memory. `post`, `collect`, `close` and `Left::next` may spin behind another
-//! thread that has stalled. After 2^62 entries they spin for ever.
+//! `SettleBox::new` takes memory. `post`, `collect`, `close` and `Left::next` may spin while another
+//! thread has stalled. After 2^62 entries they spin for ever.
 #![tactic(auto)]
 
 mod desk;

@@ -1,4 +1,4 @@
-//! The rule of the box, and what each step tells. These types are for the proofs alone.
+//! The rule of the box, and what each step reports. These types are for the proofs only.
 use crate::{Sender, Sent};
 use crossbeam_queue::RuledArrayQueue;
 use crossbeam_queue::protocol::{Join, Lesson, Outcome, Protocol, Split};

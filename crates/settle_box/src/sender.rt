@@ -2,7 +2,7 @@ use std::collections::LinkedList;
 use wire_base::Note;
 
 /// A name under which notes are posted: the list of split numbers that leads to it from the first
-/// pass, the newest first. No code makes one: passes know senders in contracts alone.
+/// pass, the newest first. No code makes one: passes know senders only in contracts.
 pub struct Sender {
     pub name: LinkedList<u64>,
     /// How often its pass was split, which is the number of its next split.

@@ -43,7 +43,7 @@ abbrev pub op_for : List ℕ → Option Row → Op
 op_for key None = Remove key
 op_for key (Some row) = Set row
 
--- what leads from a key's row to another; nothing where they are the same
+-- what leads from a key's row to another; nothing if they are the same
 abbrev pub change_of : List ℕ → Option Row → Option Row → Option Op
 change_of key was now = if is_same was now then None else Some (op_for key now)
 

@@ -1,4 +1,4 @@
--- The covered end of a place (this project's profile): the place itself where no span begins at it, else the covered end
+-- The covered end of a place (this project's profile): the place itself if no span begins at it, else the covered end
 -- of that span's end. So all bytes from the place up to there lie in spans that adjoin each other.
 use Rattle.std.specs.Prelude.{◌≡◌, ◌⊎◌, ℕ, zero, suc, ◌≤◌, ◌<◌, All, Contains, List, [], ◌∷◌, ◌++◌, length, Option, Some, None, nat_lt, ◌==◌, ◌&&◌, if◌then◌else◌}
 use Rattle.std.specs.Option.{option_map_or}
@@ -9,7 +9,7 @@ abbrev pub next_end : List Extent → ℕ → Option ℕ
 next_end [] place = None
 next_end (span ∷ spans) place = if (span.start == place) && nat_lt place span.end then Some span.end else next_end spans place
 
--- the end of at most so many spans, the first of which begins at the place and each next one where the one before ends
+-- the end of at most this many spans, the first of which begins at the place and each next one where the one before ends
 abbrev pub end_within : List Extent → ℕ → ℕ → ℕ
 end_within spans zero place = place
 end_within spans (suc more) place = option_map_or (end_within spans more) (next_end spans place) place
@@ -36,7 +36,7 @@ abbrev pub last_end : ℕ → List Extent → ℕ
 last_end place [] = place
 last_end place (span ∷ spans) = last_end span.end spans
 
--- the told spans are those up to the covered end, each of which is in the list, and the others
+-- the reported spans are those up to the covered end, each of which is in the list, and the others
 pub record ClosesPrefix (told spans : List Extent) (base : ℕ) : Type 0 where
   pub front : List Extent
   pub rest : List Extent

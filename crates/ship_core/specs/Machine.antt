@@ -95,7 +95,7 @@ IsStoring Commit = Unit {0}
 IsStoring (Crash left) = Unit {0}
 IsStoring Restart = ⊥
 
--- one of the steps stores the row: a slot has it over the notes that stand there
+-- one of the steps stores the row: a slot has it over the notes that are there
 pub record IsStoredBy (core : Core) (steps : List CoreStep) (row : Row) : Type 0 where
   pub front : List CoreStep
   pub step : CoreStep

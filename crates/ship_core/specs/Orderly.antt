@@ -1,6 +1,6 @@
 -- Notes in an order that a run can make (this project's profile): a slot's Begin comes before its other notes and once,
 -- spans that are settled for one slot and epoch are equal or disjoint, and two Renames of a slot by one scan are equal.
--- Of what a Seen tells nothing is asked.
+-- Of what a Seen says nothing is asked.
 use Rattle.std.specs.Prelude.{◌≡◌, ℕ, All, List, [], ◌∷◌, ◌++◌, IsSome}
 use Rattle.std.specs.List.{filter_map}
 use Rattle.wire_base.specs.declared.note.Note.{Note}

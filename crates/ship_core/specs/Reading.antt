@@ -1,4 +1,4 @@
--- Words for plain passes over notes (this project's profile).
+-- Names for plain passes over notes (this project's profile).
 use Rattle.std.specs.Prelude.{ℕ, Bool, true, false, max, Option, Some, None, nat_lt, ◌==◌}
 use Rattle.std.specs.Option.{option_map}
 use Rattle.wire_base.specs.declared.row.Row.{Row}

@@ -1,5 +1,5 @@
 -- Replay of updates (this project's profile): the rows after operations in their order, each of which sets the row of
--- its key in place of an earlier one, its moment of the last change included, or takes it away, or changes nothing where
+-- its key in place of an earlier one, its moment of the last change included, or takes it away, or changes nothing if
 -- there is none.
 use Rattle.std.specs.Prelude.{ℕ, List, [], ◌∷◌}
 use Rattle.wire_base.specs.KeyOrder.{with_entry, without_key}
@@ -8,7 +8,7 @@ use Rattle.wire_base.specs.declared.row.Op.{Op}
 use Rattle.wire_base.specs.declared.row.Op.TheVariants.{Set, Remove}
 use Rattle.ship_core.specs.Rows.{key_of}
 
--- the rows with this one: in place of its key's, or where its key belongs
+-- the rows with this one: in place of its key's, or at the place to which its key belongs
 abbrev pub with_row : Row → List Row → List Row
 with_row = with_entry key_of
 

@@ -2,7 +2,7 @@
 -- that any note of the slot names. Its base is that of the Begin for the epoch of the Begin, and 0 for every other. Its
 -- offset is the covered end of the base by the spans that were settled for its epoch, so notes of older epochs change
 -- nothing. Its path is that of the Rename with the greatest scan number, or else of the Begin. Its moment of the last
--- change is the greatest that its Begin and its Seen notes carry. It is gone where some Forget of the slot names an epoch
+-- change is the greatest that its Begin and its Seen notes carry. It is gone if some Forget of the slot names an epoch
 -- and an end that are not above its own epoch and offset.
 use Rattle.std.specs.Prelude.{ℕ, Bool, false, List, [], ◌∷◌, max, fold, filter, Option, Some, None, unwrap_or, nat_lt, nat_le, ◌==◌, ◌&&◌, ◌||◌, if◌then◌else◌}
 use Rattle.std.specs.List.{filter_map, list_any}
@@ -93,7 +93,7 @@ forgets epoch offset (Forget slot named end) = nat_lt named.0 epoch || ((named.0
 abbrev pub notes_of : ℕ → List Note → List Note
 notes_of slot notes = filter (λ note. slot_of note == slot) notes
 
--- the first Begin; where notes are orderly there is no other
+-- the first Begin; if notes are orderly there is no other
 abbrev pub first_start : List Start → Option Start
 first_start [] = None
 first_start (start ∷ starts) = Some start
@@ -127,7 +127,7 @@ path_over start notes = unwrap_or (option_map (λ naming. naming.path) (fold new
 abbrev pub is_gone : Start → List Note → Bool
 is_gone start notes = list_any (forgets (greatest_epoch notes) (offset_over start notes)) notes
 
--- the row that stands where nothing makes it go
+-- the row that is there if nothing makes it go
 abbrev pub standing_row : List Note → Start → Row
 standing_row notes start = record {
   key = start.key;
@@ -142,7 +142,7 @@ row_of notes start = if is_gone start notes then None else Some (standing_row no
 
 -- ---- among all notes
 
--- the row of a slot: none where it has no Begin or its row is gone
+-- the row of a slot: none if it has no Begin or its row is gone
 abbrev pub row_over : ℕ → List Note → Option Row
 row_over slot notes = option_and_then (row_of (notes_of slot notes)) (start_over (notes_of slot notes))
 

@@ -6,7 +6,7 @@ ghost use Rattle.ship_core.specs.Changes.{change_of, same_row};
 use std::alloc::Global;
 use wire_base::{NoMemory, Op, Row, Text};
 
-/// What leads from a key's row to the one that it has now: `None` where they are the same.
+/// What leads from a key's row to the one that it has now: `None` if they are the same.
 pub fn change(
     alloc: Global,
     key: &Text,

@@ -22,7 +22,7 @@ ghost use Rattle.ship_core.specs.RowOver.{Start, notes_of, greatest_epoch, place
 ghost use Rattle.ship_core.specs.Forward.{RowGoesOn};
 ghost use Rattle.ship_core.specs.Orderly.{AreOrderly, IsBegun, MayFollow};
 
-/// The covered end of a place is the place itself where no span begins at it, else the covered end of that span's end.
+/// The covered end of a place is the place itself if no span begins at it, else the covered end of that span's end.
 /// A law; it computes nothing.
 pub fn covered_end_by_spans()
     ensures stays { (spans : List Extent) (place : ℕ) →
@@ -43,8 +43,8 @@ pub fn covered_end_by_steps()
         place ≤ most → covered_end spans place ≤ most }
 {}
 
-/// By spans that were told the covered end closes a prefix of what was told, each span of it settled; and where all that
-/// was told is settled, it is the end of all. A law; it computes nothing.
+/// By spans that were reported the covered end closes a prefix of what was reported, each span of it settled; and if all
+/// that was reported is settled, it is the end of all. A law; it computes nothing.
 pub fn covered_end_closes_a_prefix()
     ensures prefix { (told spans : List Extent) (base : ℕ) → Adjoin base told →
         All (Contains told) spans → ClosesPrefix told spans base }
@@ -95,7 +95,7 @@ pub fn update_by_key()
     ensures in_order { (rows : List Row) (op : Op) → IsInOrder rows → IsInOrder (after_op rows op) }
 {}
 
-/// Rows in order are told by what each key has, so there is at most one list of rows over opening rows and notes; where
+/// Rows in order are determined by what each key has, so there is at most one list of rows over opening rows and notes; if
 /// the opening rows are in order and the notes orderly, there is one. A law; it computes nothing.
 pub fn rows_by_key()
     ensures by_key { (first second : List Row) → IsInOrder first → IsInOrder second →
@@ -118,7 +118,7 @@ pub fn orderly_by_one_more()
 {}
 
 /// A file that begins once and keeps its life is done up to the covered end of its base, and its row has what its Begin
-/// told besides; its notes are orderly where its settled spans are apart, as spans are that adjoin each other. A law; it
+/// said besides; its notes are orderly if its settled spans are apart, as spans are that adjoin each other. A law; it
 /// computes nothing.
 pub fn one_life()
     ensures row { (slot : Slot) (key path : List ℕ) (epoch : Epoch) (base : ℕ) (changed : Moment)
@@ -154,7 +154,7 @@ pub fn changes_by_key()
     ensures unchanged { (key : List ℕ) (row : Option Row) → change_of key row row ≡ None }
 {}
 
-/// The row of a key is the opening one where no Begin names the key, none where all its slots' rows went, and else that of
+/// The row of a key is the opening one if no Begin names the key, none if all its slots' rows went, and else that of
 /// its slot above which none has a row. A law; it computes nothing.
 pub fn row_by_slots()
     ensures none_given { (opening : List Row) (notes : List Note) (key : List ℕ) →
@@ -170,7 +170,7 @@ pub fn row_by_slots()
         row_over other notes ≡ None) → row_for opening notes key ≡ Some row }
 {}
 
-/// The slots of a key are those that a Begin gives it: each slot that was begun is its key's, and where notes are orderly no
+/// The slots of a key are those that a Begin gives it: each slot that was begun is its key's, and if notes are orderly no
 /// other key's. A law; it computes nothing.
 pub fn slots_by_begin()
     ensures given { (notes : List Note) (key : List ℕ) (slot : ℕ) → AreOrderly notes →
@@ -195,7 +195,7 @@ pub fn no_row_goes_back_while_it_runs()
         RowGoesOn (row_over slot core.notes) (row_over slot new.notes) }
 {}
 
-/// Each row that an update sets is the row of some slot over the notes that stand before a commit or a crash: so each offset
+/// Each row that an update sets is the row of some slot over the notes that are there before a commit or a crash: so each offset
 /// that was stored is the covered end of spans that were settled before. A law; it computes nothing.
 pub fn updates_come_from_notes()
     ensures { (steps : List CoreStep) (core : Core) (row : Row) → Runs at_start steps core →

@@ -7,7 +7,7 @@
 //! end that was settled. A row keeps besides the greatest moment of change with which its file was listed.
 //!
 //! The laws say what follows for any notes or for orderly ones: what a covered end is, that it closes a prefix of the
-//! events that were told, that no row goes back, that a row which went stays gone, and that the order in which notes
+//! events that were reported, that no row goes back, that a row which went stays gone, and that the order in which notes
 //! come does not matter. Nothing here collects notes or writes a disk.
 #![tactic(auto)]
 

@@ -116,7 +116,7 @@ fn replace(ops: &mut Vec<Op>, key: &Text, op: Option<Op>) -> Result<(), NoMemory
     Ok(())
 }
 
-/// Where the key's operation stands, or where it belongs.
+/// Where the key's operation is, or where it belongs.
 fn place(ops: &[Op], key: &Text) -> Result<usize, usize>
     requires { AreAscending ops.now }
     ensures found { IfOk result (IsAt key_in ops.now key.now) }

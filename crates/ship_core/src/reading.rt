@@ -125,7 +125,7 @@ fn count_of_spans(notes: &[Note], slot: u32, epoch: u32) -> usize
         .count()
 }
 
-/// Up to where all is settled from the base on.
+/// The place up to which all is settled from the base on.
 fn covered_end(notes: &[Note], slot: u32, epoch: u32, base: u64) -> u64
     ensures { result ≡ covered_end (spans_in epoch (notes_of slot notes.now)) base }
 {
@@ -235,14 +235,14 @@ pub(crate) fn start_over(notes: &[Note], slot: u32) -> Option<Begun<'_>>
     }
 }
 
-/// From where an epoch is read, where the first one was read from the base.
+/// From if an epoch is read, if the first one was read from the base.
 fn base_in(first: u32, base: u64, epoch: u32) -> u64
     ensures { result ≡ (if epoch == first then base else 0) }
 {
     if epoch == first { base } else { 0 }
 }
 
-/// How far the slot's file is done: its epoch and offset; none where it did not begin or its row is gone.
+/// How far the slot's file is done: its epoch and offset; none if it did not begin or its row is gone.
 fn place_over(notes: &[Note], slot: u32) -> Option<(u32, u64)>
     ensures { result ≡ place_of (row_over slot notes.now) }
 {

@@ -13,7 +13,7 @@ use wire_base::{NoMemory, Op, Row};
 #[derive(Debug, Drop)]
 pub struct Rows {
     rows: Vec<Row>,
-    /// The place behind the row that was set last: operations mostly come in the order of their keys.
+    /// The place after the row that was set last: operations mostly come in the order of their keys.
     next: usize,
 }
 
@@ -56,7 +56,7 @@ impl Rows {
         &self.rows[i]
     }
 
-    /// `None` exactly where no row has the key.
+    /// `None` exactly if no row has the key.
     pub fn get(&self, key: &[u8]) -> Option<&Row>
         ensures found { option_copied result ≡ find key.now self.now }
         ensures has_the_key { IfSome result (λ row. row.now.key ≡ key.now) }
@@ -71,7 +71,7 @@ impl Rows {
         }
     }
 
-    /// Sets the row of a key in place of an earlier one, or takes it away where there is one.
+    /// Sets the row of a key in place of an earlier one, or takes it away if there is one.
     pub fn apply(&mut self, _alloc: Global, op: Op) -> Result<(), NoMemory>
         requires { IsOp op }
         ensures applied { OnOk result (self.new ≡ after_op self.old op) }
@@ -123,14 +123,14 @@ impl Rows {
     }
 }
 
-/// The place behind this one.
+/// The place after this one.
 fn behind(place: Result<usize, usize>) -> usize {
     match place {
         Ok(i) | Err(i) => i.saturating_add(1),
     }
 }
 
-/// Where the key's row stands, or where it belongs. The place `near` is looked at first.
+/// Where the key's row is, or where it belongs. The place `near` is looked at first.
 fn place_near(rows: &[Row], near: usize, key: &[u8]) -> Result<usize, usize>
     requires { IsInOrder rows.now }
     ensures found { IfOk result (IsAt key_of rows.now key.now) }
@@ -142,7 +142,7 @@ fn place_near(rows: &[Row], near: usize, key: &[u8]) -> Result<usize, usize>
     }
 }
 
-/// Where the key's row stands, or where it belongs.
+/// Where the key's row is, or where it belongs.
 fn place(rows: &[Row], key: &[u8]) -> Result<usize, usize>
     requires { IsInOrder rows.now }
     ensures found { IfOk result (IsAt key_of rows.now key.now) }

@@ -3,11 +3,11 @@ use wire_base::Note;
 /// One step of the registry machine.
 #[derive(Debug, Drop)]
 pub enum CoreStep {
-    /// The keeper is told a note.
+    /// A note is given to the keeper.
     Noted(Note),
     /// The pending updates are stored.
     Commit,
-    /// So many updates are left, of those that were stored and the pending ones after them.
+    /// This many updates are left, of those that were stored and the pending ones after them.
     Crash(u64),
     /// What is stored is opened again.
     Restart,

@@ -4,7 +4,7 @@ ghost use Rattle.outside.specs.Counts.{Rose};
 use outside::Source;
 use std::alloc::Global;
 
-/// So many bytes are read at once at most.
+/// How many bytes are read at once at most.
 const PIECE_BYTES: usize = 4_096;
 
 /// Why not all bytes of a source were read.
