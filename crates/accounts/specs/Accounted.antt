@@ -1,5 +1,5 @@
--- How a tail that followed a file stands in the account of its slot (this project's profile): with the looks as far as the file kept its
--- key, and with what its harvester told.
+-- How a tail that followed a file is in the account of its slot (this project's profile): with the looks as far as the file kept its
+-- key, and with what its harvester reported.
 use Rattle.std.specs.Prelude.{ℕ, List, [], Option, None}
 use Rattle.harvester.specs.History.{History}
 use Rattle.kept_rows.specs.Account.{AccountedEvent, FollowedTail, Place}
@@ -22,15 +22,15 @@ place_by placed slot epoch span (ShippedAs payload) =
 abbrev pub place_in : (Parcel → Option Place) → Slot → ℕ → ToldEvent → Option Place
 place_in placed slot epoch event = place_by placed slot epoch event.span event.fate
 
--- an event as the first reading of its epoch told it
+-- an event as the first reading of its epoch reported it
 abbrev pub accounted : (Parcel → Option Place) → Slot → ℕ → ToldEvent → AccountedEvent
 accounted placed slot epoch event = record { event = event; reading = 0; place = place_in placed slot epoch event }
 
--- the tail, by all that it told
+-- the tail, by all that it reported
 abbrev pub followed_tail : Opened → List Look → History → FollowedTail
 followed_tail opened looks history =
     record { opening = opened.opening; place = opened.begin.base; looks = kept_looks history looks; beyond = lost_looks history looks }
 
--- those by which it was asked for its key stand first
+-- those by which it was asked for its key come first
 abbrev pub told_tail : Opened → List Look → History → ToldTail
 told_tail opened looks history = record { tail = followed_tail opened looks history; history = record history { before = [] } }

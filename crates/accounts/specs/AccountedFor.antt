@@ -1,5 +1,5 @@
--- A run that an account accounts for (this project's profile): its files are followed so, each slot is as the run told it where its file
--- keeps its identity and its truncations are seen, only told events were sent, and rows over its notes are kept, one for each key that
+-- A run that an account accounts for (this project's profile): its files are followed so, each slot is as the run reported it if its file
+-- keeps its identity and its truncations are seen, only reported events were sent, and rows over its notes are kept, one for each key that
 -- was begun and has not lost it rightly. The notes are those of its keeper.
 use Rattle.std.specs.Prelude.{◌≡◌, ◌⊎◌, Contains, List, map}
 use Rattle.std.specs.List.{AllByRecursion}

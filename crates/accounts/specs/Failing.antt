@@ -19,12 +19,12 @@ pub record IsFailingSo {L : Type 0} (told : L → Option Talk) (timeout start : 
   -- what its talks acknowledged so far
   pub acknowledged : List Parcel
   pub stands : StandsFor told start worker (Some all) acknowledged
-  -- the moments of its failures, and those that the clock gave behind them
+  -- the moments of its failures, and those that the clock gave after them
   pub used : List ℕ
   pub left : List ℕ
   pub moments_are : moments ≡ used ++ left
   pub failures : AreFailures timeout (drop start all) used
-  -- as many of the last ones as it counts have nothing new behind the first
+  -- as many of the last ones as it counts have nothing new after the first
   pub earlier : List Outcome
   pub last : List Outcome
   pub are : drop start all ≡ earlier ++ last
@@ -32,14 +32,14 @@ pub record IsFailingSo {L : Type 0} (told : L → Option Talk) (timeout start : 
   pub nothing_new : OnlyTheFirstAcknowledges last
   -- nor has the present link
   pub nothing_since : (worker.failures ≡ 0) ⊎ AcknowledgeInAll (drop start all) (payloads_of acknowledged)
-  -- windows went out, and a byte was heard, behind the moments of its failures
+  -- windows went out, and a byte was heard, after the moments of its failures
   pub outs : All (λ out. Contains left out.0) worker.outs
   pub heard : (worker.heard.0 ≡ 0) ⊎ Contains left worker.heard.0
-  -- where the clock gave none since the last failure, the worker rests
+  -- if the clock gave none since the last failure, the worker rests
   pub rests : left ≡ [] → (0 < worker.failures) × EndsAt moments worker.failed.0
   pub timeout_is : worker.timeout ≡ timeout
 
--- so it is, or the wire's count of faults stands at its end, from where on what was refused is not listed
+-- the same holds, or the wire's count of faults is at its end, from where on what was refused is not listed
 pub record IsFailing {L : Type 0} (told : L → Option Talk) (timeout start : ℕ) (moments : List ℕ) (seen : Seen) (worker : Working L) : Type 0 where
   pub all : List Outcome
   pub tells : seen.outcomes ≡ Some all

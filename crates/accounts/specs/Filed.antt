@@ -1,5 +1,5 @@
--- The files of a run with what was told of them (this project's profile), and their account as a whole. A file is opened again after its
--- tail was closed: what its tails told, one by one, is joined in one account.
+-- The files of a run with what was reported of them (this project's profile), and their account as a whole. A file is opened again after its
+-- tail was closed: what its tails reported, one by one, is joined in one account.
 use Rattle.std.specs.Prelude.{◌≡◌, ℕ, ◌-◌, ◌==◌, List, [], ◌∷◌, ◌++◌, Contains, map, take, Option, None, Some, if◌then◌else◌}
 use Rattle.harvester.specs.History.{History, Telling, told_to}
 use Rattle.kept_rows.specs.Account.{Following, Place, SlotAccount}
@@ -18,13 +18,13 @@ use Rattle.accounts.specs.Opened.{Opened}
 use Rattle.accounts.specs.ToldFile.{AreEpochsFrom}
 use Rattle.accounts.specs.Turned.{Turned}
 
--- an opening of a slot's file: what its tail told, and what its harvester told of it
+-- an opening of a slot's file: what its tail reported, and what its harvester reported of it
 pub record Opening : Type 0 where
   pub opened : Opened
   pub history : History
   pub looks : List Look
 
--- of a file whose key a whole scan did not show: the number of that scan, by which its row may go; and where the file left what the run knows,
+-- of a file whose key a whole scan did not show: the number of that scan, by which its row may go; and if the file left what the run knows,
 -- the number of the last scan before
 pub record Removal : Type 0 where
   pub hidden_by : ℕ
@@ -76,9 +76,9 @@ left_by (Some removal) = removal.left_after
 abbrev pub left_in : Filed → Option ℕ
 left_in file = left_by file.removed
 
--- ---- what was told of it over all its openings
+-- ---- what was reported of it over all its openings
 
--- an epoch that a later tail goes on to tell, from where it was told so far
+-- an epoch that a later tail goes on to report, from where it was reported so far
 abbrev pub told_on : Telling → Telling → Telling
 told_on before telling = record {
   epoch = before.epoch;
@@ -88,7 +88,7 @@ told_on before telling = record {
   told = before.told ++ telling.told;
 }
 
--- the first of the later epochs goes on with the present one where it has its number
+-- the first of the later epochs goes on with the present one if it has its number
 abbrev pub epochs_behind : List Telling → Telling → History → List Telling → History
 epochs_behind past present next [] =
     if next.present.epoch == present.epoch then record next { past = past; present = told_on present next.present }
@@ -97,7 +97,7 @@ epochs_behind past present next (first ∷ later) =
     if first.epoch == present.epoch then record next { past = past ++ told_on present first ∷ later }
     else record next { past = past ++ present ∷ first ∷ later }
 
--- the history of the later tail, behind the epochs that were told before
+-- the history of the later tail, after the epochs that were reported before
 abbrev pub told_both : History → History → History
 told_both before next = epochs_behind before.past before.present next next.past
 
@@ -147,7 +147,7 @@ following_of file = record {
 abbrev pub parts_told : Filed → List Part
 parts_told file = parts_in file.opened.rule.multiline (tails_in file)
 
--- each of its events where `placed` has its parcel
+-- each of its events, if `placed` has its parcel
 abbrev pub account_of : (Parcel → Option Place) → Filed → SlotAccount
 account_of placed file =
     slot_account (place_in placed file.opened.begin.slot) (following_of file) file.opened.number file.changed (parts_told file)
@@ -155,24 +155,24 @@ account_of placed file =
 abbrev pub accounts_of : (Parcel → Option Place) → List Filed → List SlotAccount
 accounts_of placed files = map (account_of placed) files
 
--- what was told of it was told of its slot
+-- what was reported of it was reported of its slot
 abbrev pub HasItsSlot : Filed → Type 0
 HasItsSlot file = file.turned.slot ≡ file.opened.begin.slot
 
--- the parts of the epoch told what the harvesters told of it
+-- the parts of the epoch reported what the harvesters reported of it
 pub record TellEpoch (parts : EpochParts) (telling : Telling) : Type 0 where
   pub epoch : parts.epoch ≡ telling.epoch
   pub start : parts.start ≡ telling.start
   pub told : told_in parts.parts ≡ telling.told
 
--- epoch by epoch; in those behind them nothing was told
+-- epoch by epoch; in those after them nothing was reported
 abbrev pub TellEpochs : List EpochParts → List Telling → Type 0
 TellEpochs [] [] = Unit {0}
 TellEpochs [] (telling ∷ tellings) = ⊥
 TellEpochs (one ∷ epochs) [] = (told_in one.parts ≡ []) × TellEpochs epochs []
 TellEpochs (one ∷ epochs) (telling ∷ tellings) = TellEpoch one telling × TellEpochs epochs tellings
 
--- the epochs of its account are those that were told of it
+-- the epochs of its account are those that were reported of it
 pub record IsFiled (file : Filed) : Type 0 where
   pub slot : file.turned.slot ≡ file.opened.begin.slot
   pub epochs : AreEpochsFrom (begun_in file).epoch (begun_in file).base (tellings_in (turned_in file).history)

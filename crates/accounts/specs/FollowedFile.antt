@@ -31,7 +31,7 @@ use Rattle.accounts.specs.ToldFile.{IsToldFile, IsToldToItsEnd}
 use Rattle.accounts.specs.Watch.{Name}
 use Rattle.accounts.specs.Watched.{watch_in}
 
--- what the tail told, in its own words; the folder's closing has its looks once it is closed
+-- what the tail itself reported; the folder's closing has its looks once it is closed
 abbrev pub tail_with : Opened → List Look → TailHistory
 tail_with opened looks = record { opening = opened.opening; number = opened.number; file = opened.file; begun = opened.begun; looks = looks }
 
@@ -125,7 +125,7 @@ IsMomentOf run file listed =
 
 -- ---- opened again
 
--- the tail was closed where it read on, at its file's end, or where the file had another key
+-- the tail was closed while it read on, at its file's end, or when the file had another key
 abbrev pub MayReopenAt : Stage → Type 0
 MayReopenAt Reads = Unit {0}
 MayReopenAt Asks = ⊥
@@ -133,7 +133,7 @@ MayReopenAt Ended = Unit {0}
 MayReopenAt Changed = Unit {0}
 MayReopenAt Over = ⊥
 
--- its slot's file, by the settings and the folder's list, with what its tail told
+-- its slot's file, by the settings and the folder's list, with what its tail reported
 pub record IsOpeningOf (run : Run) (first : Opened) (one : Opening) : Type 0 where
   pub same_slot : one.opened.begin.slot ≡ first.begin.slot
   pub same_input : one.opened.begin.input ≡ first.begin.input
@@ -144,7 +144,7 @@ pub record IsOpeningOf (run : Run) (first : Opened) (one : Opening) : Type 0 whe
   pub tail : IsTail run.trace one.opened.opening one.opened.begin.path one.opened.number one.looks
   pub told : IsToldFile (watch_in run) one.opened run.trace.moments (record { slot = first.begin.slot; history = one.history }) (Some (tail_with one.opened one.looks))
 
--- behind the opening before it, where so much was told so far
+-- after the opening before it, when this much was reported so far
 pub record IsReopened (run : Run) (first : Opened) (last : Opening) (so_far : History) (next : Opening) : Type 0 where
   pub is : IsOpeningOf run first next
   pub shown : WasShownLast run next.opened
@@ -158,7 +158,7 @@ AreReopened run first last so_far (next ∷ later) = IsReopened run first last s
 
 -- ---- removed
 
--- its looks end with its end look, up to which all complete lines are told
+-- its looks end with its end look, up to which all complete lines are reported
 pub record EndsAtItsEndLook (one : Opening) : Type 0 where
   pub told : IsToldToItsEnd one.history
   pub before : List Segment
@@ -197,7 +197,7 @@ AreKnownTo run last first one so_far (next ∷ later) are =
 
 -- ---- together
 
--- `told` is what outlives its first harvester; the others stand in the settings, the scans and the folder's list
+-- `told` is what outlives its first harvester; the others are in the settings, the scans and the folder's list
 pub record IsFollowedFile (run : Run) (file : Filed) : Type 0 where
   pub rule_is : slice_get run.settings.inputs file.opened.begin.input ≡ Some file.opened.rule
   pub gave : GivesKey file.opened.rule file.opened.begin.key file.opened.begin.path file.opened.file file.opened.asked
@@ -208,7 +208,7 @@ pub record IsFollowedFile (run : Run) (file : Filed) : Type 0 where
   pub listed : IsListedAs run file
   pub moment : IsMomentOf run file listed
   pub reopened : AreReopened run file.opened (first_opening file) file.turned.history file.later
-  -- where it left, it was known up to then
+  -- if it left, it was known up to then
   pub first_known : IfSome (left_in file) (λ last. IsKnownTo run last file.opened listed.last told.history.names)
   pub later_known : IfSome (left_in file) (λ last. AreKnownTo run last file.opened (first_opening file) file.turned.history file.later reopened)
   pub removed : IfSome file.removed (WasRemovedBy run file)
@@ -218,7 +218,7 @@ abbrev pub AreInSlots : ℕ → List Filed → Type 0
 AreInSlots least [] = Unit {0}
 AreInSlots least (file ∷ files) = (least ≤ slot_in file) × AreInSlots (slot_in file + 1) files
 
--- each opening of the run is that of one of the files, or its tail was not followed and told no looks but reads
+-- each opening of the run is that of one of the files, or its tail was not followed and reported no looks but reads
 abbrev pub EachOpeningIsOne : Run → List Filed → Type 0
 EachOpeningIsOne run files = (opening : ℕ) (path : List ℕ) (number : ℕ) (begun : Sight) → run.trace.began ≤ opening →
     slice_get run.trace.events opening ≡ Some (OpenedAs path number begun) →

@@ -31,7 +31,7 @@ hidden_key hidden = hidden.row.key
 abbrev pub hidden_slot : Hidden → ℕ
 hidden_slot hidden = hidden.slot.0
 
--- ---- what the keeper is told of it: how it begins, and the Forget lets it go
+-- ---- what is reported to the keeper of it: how it begins, and the Forget removes it
 
 abbrev pub hidden_begin : Hidden → Note
 hidden_begin hidden = Begin hidden.slot hidden.row.key hidden.path (record { 0 = hidden.start.epoch }) hidden.start.base hidden.row.changed

@@ -1,5 +1,5 @@
 -- The numbers that a run reports (this project's profile): how many events of its account a peer acknowledged, and how many a rule
--- dropped. Each number stands still at 2^64 - 1. A place counts where the payload of its event is acknowledged there, and once;
+-- dropped. Each number stays at 2^64 - 1. A place counts if the payload of its event is acknowledged there, and once;
 -- and each payload that a talk of the run acknowledges counts.
 use Rattle.std.specs.Prelude.{◌≡◌, ◌⊎◌, ℕ, ◌+◌, ◌-◌, ◌^◌, min, Bool, true, false, IsTrue, List, Contains, None, Option, Some, count_by, is_some, length}
 use Rattle.std.specs.List.{AllByRecursion, flat_map}

@@ -1,5 +1,5 @@
 -- A tail that was opened to be followed (this project's profile): with what its harvester began, by the rule of which input, at
--- which place of the folder's list, which file that found, and what its tail told as it was asked for its key.
+-- which place of the folder's list, which file that found, and what its tail reported as it was asked for its key.
 use Rattle.std.specs.Prelude.{◌≡◌, ℕ, List}
 use Rattle.event_tree.specs.declared.input_rule.InputRule.{InputRule}
 use Rattle.outside.specs.Files.{File}
@@ -17,10 +17,10 @@ pub record Opened : Type 0 where
   pub number : ℕ
   pub begun : Sight
   pub file : File
-  -- before its harvester had it; none where the key is not asked of the open file
+  -- before its harvester had it; none if the key is not asked of the open file
   pub asked : List Look
 
--- the tail tells that it is this one
+-- the tail reports that it is this one
 pub record IsTailOf (opened : Opened) (told : TailHistory) : Type 0 where
   pub opening : told.opening ≡ opened.opening
   pub number : told.number ≡ opened.number

@@ -10,14 +10,14 @@ use Rattle.wire_base.specs.declared.numbers.Slot.{Slot}
 use Rattle.accounts.specs.Filed.{Filed, Opening, told_both}
 use Rattle.accounts.specs.Turned.{Turned}
 
--- what each tail told, the first one first
+-- what each tail reported, the first one first
 abbrev pub turned_by : Slot → Opening → Turned
 turned_by slot one = record { slot = slot; history = one.history }
 
 abbrev pub each_turned : Filed → List Turned
 each_turned file = file.turned ∷ map (turned_by file.turned.slot) file.later
 
--- the first of these epochs, if it is not the one that was told last
+-- the first of these epochs, if it is not the one that was reported last
 abbrev pub announced_after : Slot → Telling → List Telling → List Note
 announced_after slot last [] = []
 announced_after slot last (first ∷ later) = if first.epoch == last.epoch then [] else Announce slot (record { 0 = first.epoch }) ∷ []

@@ -1,5 +1,5 @@
 -- The looks of a tail that followed a file, parted where the length fell and no asking gave the file's key any more (this project's
--- profile): those up to there were told of the file, and those from there on are of what it was then.
+-- profile): those up to there were reported of the file, and those from there on are of what it was then.
 use Rattle.std.specs.Prelude.{Bool, false, true, List, [], ◌∷◌, ◌||◌, if◌then◌else◌}
 use Rattle.event_tree.specs.declared.input_rule.IdentityRule.{IdentityRule}
 use Rattle.event_tree.specs.declared.input_rule.IdentityRule.TheVariants.{Fingerprint, Native, Path}
@@ -18,19 +18,19 @@ abbrev pub has_length : List Look → Bool
 has_length [] = false
 has_length (look ∷ looks) = asks_length look.question || has_length looks
 
--- those before it, and none where no look did
+-- those before it, and none if no look did
 abbrev pub before_last_length : List Look → List Look
 before_last_length [] = []
 before_last_length (look ∷ looks) = if has_length looks then look ∷ before_last_length looks else []
 
--- that one and those behind it, or all where no look did
+-- that one and those after it, or all if no look did
 abbrev pub from_last_length : List Look → List Look
 from_last_length [] = []
 from_last_length (look ∷ looks) = if has_length looks then from_last_length looks else look ∷ looks
 
--- ---- where a file has lost its key
+-- ---- if a file has lost its key
 
--- a file that is read to be known has no key while none was told
+-- a file that is read to be known has no key while none was reported
 abbrev pub is_read_for_its_key : IdentityRule → Bool
 is_read_for_its_key (Fingerprint offset count) = true
 is_read_for_its_key Native = false

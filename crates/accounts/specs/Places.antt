@@ -1,4 +1,4 @@
--- Where the parcels stand that the talks of a run's wires acknowledged (this project's profile): wire by wire, connection by
+-- Where the parcels are that the talks of a run's wires acknowledged (this project's profile): wire by wire, connection by
 -- connection, and by their numbers in what that connection's talk acknowledges.
 use Rattle.std.specs.Prelude.{◌≡◌, ℕ, ◌+◌, List, [], ◌∷◌, ◌++◌, Contains, Option, None, Some, if◌then◌else◌}
 use Rattle.batch_worker.specs.Ending.{HasTalks}
@@ -46,7 +46,7 @@ pub record IsPlacedWell (placed : Parcel → Option Place) (wires : List WireTol
   pub stands : IsAcknowledgedAt wires parcel.payload place
 
 -- one place has one parcel; each parcel that a worker's talks acknowledged has a place, and no other has one; wherever a talk
--- acknowledges a payload, a parcel stands
+-- acknowledges a payload, a parcel is there
 pub record ArePlaces (placed : Parcel → Option Place) (workers : List Taken) (wires : List WireTold) : Type 0 where
   pub one_each : (parcel other : Parcel) (place : Place) → placed parcel ≡ Some place → placed other ≡ Some place → parcel ≡ other
   pub well : (parcel : Parcel) → Contains (acknowledged_in workers) parcel → IsPlacedWell placed wires parcel
@@ -56,7 +56,7 @@ pub record ArePlaces (placed : Parcel → Option Place) (workers : List Taken) (
 -- ---- a worker's wire
 
 -- the talks of the wire in this run acknowledge what its worker knows of, and send nothing but what it took; its links are all
--- finished. So a worker ends; of a wire that had none, no connection is told
+-- finished. This is how a worker ends; of a wire that had none, no connection is known
 pub record IsOfWorker (taken : Taken) (wire : WireTold) : Type 0 where
   pub most : ℕ
   pub talks : HasTalks most taken.acknowledged (taken_by taken) wire.outcomes

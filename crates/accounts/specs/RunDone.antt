@@ -1,5 +1,5 @@
 -- What is known besides of a run that ends as done (this project's profile): its last scan was whole, each covered entry of it was followed or
--- skipped for its reason, each file is told to its end or has another key, and all that was told is settled and collected. A run that reads its
+-- skipped for its reason, each file is reported to its end or has another key, and all that was reported is settled and collected. A run that reads its
 -- files once makes no other scan.
 use Rattle.std.specs.Prelude.{◌≡◌, ◌⊎◌, ℕ, List, [], ◌∷◌, ◌++◌, Contains, slice_get, None, Some}
 use Rattle.std.specs.List.{AllByRecursion, flat_map}
@@ -21,7 +21,7 @@ use Rattle.accounts.specs.Turned.{Turned, notes_told, parcels_told}
 
 -- ---- the scan
 
--- no scan of the run is behind it, and it was whole; those before it may be partial
+-- no scan of the run is after it, and it was whole; those before it may be partial
 pub record IsFullScan (run : Run) (scan : Scan) : Type 0 where
   pub earlier : List Scan
   pub last : run.scans ≡ earlier ++ scan ∷ []
@@ -44,7 +44,7 @@ EachEntryIsServed run scan files = (shown : Shown) (input : ℕ) (rule : InputRu
 
 -- ---- its files
 
--- the greatest moment that was noted of it is that of the entry from which it was listed, or of its opening row where that is
+-- the greatest moment that was noted of it is that of the entry from which it was listed, or of its opening row if that is
 -- greater; some note of it carries this moment, its Begin or a Seen
 pub record HasItsMoment (run : Run) (scan : Scan) (notes : List Note) (file : Filed) : Type 0 where
   pub shown : Shown
@@ -65,9 +65,9 @@ pub record IsToldWhole (run : Run) (scan : Scan) (notes : List Note) (file : Fil
   pub read_through : IsReadThrough file.turned.history
   pub moment : HasItsMoment run scan notes file
 
--- ---- what was told
+-- ---- what was reported
 
--- each parcel that files told is acknowledged, and each note that they told, or that settles a parcel, is collected: by counts that
+-- each parcel that files reported is acknowledged, and each note that they reported, or that settles a parcel, is collected: by counts that
 -- are equal and not saturated
 pub record AreAllCollected (files : List Turned) (workers : List Taken) (collected : List Note) : Type 0 where
   pub parcels_are : AsOften (flat_map parcels_told files) (acknowledged_in workers)

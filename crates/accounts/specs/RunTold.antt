@@ -14,7 +14,7 @@ use Rattle.accounts.specs.Places.{AreOfWorkers}
 use Rattle.accounts.specs.Taken.{FitBooks, Taken}
 use Rattle.accounts.specs.ToldNotes.{AreMixed, AreToldNotes}
 
--- its notes: those that it told its keeper itself, those that the keeper collected, and all of them as they were noted
+-- its notes: those that it gave its keeper itself, those that the keeper collected, and all of them as they were noted
 pub record RunNotes : Type 0 where
   pub told : List Note
   pub collected : List Note
@@ -38,8 +38,8 @@ pub record TakeTurns (run : Run) (files : List Filed) (hiddens : List Hidden) (n
       one.key ≡ later.key → row_over one.slot notes ≡ None
   pub newly_known : AllByRecursion (IsNewlyKnown run (all_slots files hiddens)) (map following_of files)
 
--- of these files, in the order of their slots, of these hidden rows, in the order of theirs, of these workers, a wire for each, and with these notes: where
--- the folder, all wires and the clock tell
+-- of these files, in the order of their slots, of these hidden rows, in the order of theirs, of these workers, a wire for each, and with these notes: if
+-- the folder, all wires and the clock are known
 pub record RunTold (run : Run) (files : List Filed) (hiddens : List Hidden) (workers : List Taken) (notes : RunNotes) : Type 0 where
   pub by : IsByScans run
   pub followed : AreFollowedFiles run files

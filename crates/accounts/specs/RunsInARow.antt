@@ -1,6 +1,6 @@
--- Runs in a row, by their accounts (this project's profile): where a run opens the row that the run before left, with the same
+-- Runs in a row, by their accounts (this project's profile): if a run opens the row that the run before left, with the same
 -- settings and in the same life, the events up to its own row of that epoch are those of both, adjoining from the place from which
--- the earlier run told them; each was dropped by its rule or acknowledged in one of the two runs.
+-- the earlier run reported them; each was dropped by its rule or acknowledged in one of the two runs.
 use Rattle.std.specs.Prelude.{◌≡◌, ◌≢◌, ◌⊎◌, ℕ, ◌<◌, Contains, List, [], map, slice_get, Some, None}
 use Rattle.std.specs.List.{AllByRecursion}
 use Rattle.event_tree.specs.declared.input_rule.InputRule.{InputRule}
@@ -22,13 +22,13 @@ pub record AccountedRun : Type 0 where
   pub account : List SlotAccount
   pub followed : AreFollowed run (map (λ one. one.following) account)
 
--- no colon, which is byte 58, stands in the id of an input, and no two have one id: so a key is of one input. The settings' ranges
+-- no colon, which is byte 58, is in the id of an input, and no two have one id: so a key is of one input. The settings' ranges
 -- give it
 pub record HaveOwnIds (inputs : List InputRule) : Type 0 where
   pub no_colon : AllByRecursion (λ rule. AllByRecursion (λ byte. byte ≢ 58) rule.id) inputs
   pub ids_apart : AreDistinct (map (λ rule. rule.id) inputs)
 
--- the run told the row's epoch up to its offset, by the account of a slot
+-- the run reported the row's epoch up to its offset, by the account of a slot
 abbrev pub IsRowOf : AccountedRun → Row → Type 0
 IsRowOf accounted row = IsToldRow accounted.account accounted.run.trace.wires row
 
@@ -40,7 +40,7 @@ pub record HasLife (run : Run) (number life : ℕ) (bytes : List ℕ) : Type 0 w
   pub file_is : slice_get run.trace.files number ≡ Some file
   pub bytes_are : life_of file life ≡ bytes
 
--- the bytes of which the epoch was told, where anything was told of it
+-- the bytes of which the epoch was reported, if anything was reported of it
 abbrev pub IsOfLife : Run → SlotAccount → EpochAccount → List ℕ → Type 0
 IsOfLife run one epoch life = (epoch.told ≡ []) ⊎ HasLife run one.number epoch.life life
 
@@ -51,21 +51,21 @@ pub record TakesUp (earlier later : AccountedRun) (life : List ℕ) (left reache
   pub same_settings : later.run.settings ≡ earlier.run.settings
   pub own_ids : HaveOwnIds earlier.run.settings.inputs
   pub left_is : IsRowOf earlier left
-  -- the row stood so as the later run opened its registry, also where runs between the two let it stand
+  -- the row was this as the later run opened its registry, also if runs between the two left it as it was
   pub found : StandsAsOpened later.run.opening left
   pub reached_is : IsRowOf later reached
-  -- the slots of both rows are as the runs told them
+  -- the slots of both rows are as the runs reported them
   pub slot_before : IsSlotAccount earlier.run left_is.one
   pub slot_after : IsSlotAccount later.run reached_is.one
   pub same_key : reached.key ≡ left.key
   pub same_epoch : reached.epoch.0 ≡ left.epoch.0
   -- its slot was known from the first scan on: a key whose row went is begun anew, from the first byte
   pub known_at_first : reached_is.one.following.known_from ≡ 0
-  -- both told the epoch of one life
+  -- both reported the epoch of one life
   pub life_before : IsOfLife earlier.run left_is.one left_is.epoch life
   pub life_after : IsOfLife later.run reached_is.one reached_is.epoch life
 
--- no slot of the key that stands before this one went
+-- no slot of the key that comes before this one went
 abbrev pub NoneWentBefore : List SlotAccount → SlotAccount → Type 0
 NoneWentBefore account one =
     AllByRecursion (λ other. key_of other ≡ key_of one → slot_of other < slot_of one → other.following.gone_after ≡ None) account
@@ -87,7 +87,7 @@ IsKnownAtFirst one = one.following.known_from ≡ 0
 abbrev pub part_of : (accounted : AccountedRun) (row : Row) → IsRowOf accounted row → Part
 part_of accounted row is = record { epoch = is.epoch; wires = accounted.run.trace.wires }
 
--- both slots are of one input, whose key it is; the later run told from where the earlier one's row stood; and the events of both
+-- both slots are of one input, whose key it is; the later run reported from where the earlier one's row was; and the events of both
 -- adjoin by the input's rules
 pub record AdjoinInARow (earlier later : AccountedRun) (life : List ℕ) (left reached : Row) (up : TakesUp earlier later life left reached) : Type 0 where
   pub rule : InputRule

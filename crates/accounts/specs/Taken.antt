@@ -1,4 +1,4 @@
--- Where all is that files told (this project's profile): what of it workers took, and which notes were collected.
+-- Where all is that files reported (this project's profile): what of it workers took, and which notes were collected.
 use Rattle.std.specs.Prelude.{ℕ, List, ◌++◌}
 use Rattle.std.specs.List.{flat_map}
 use Rattle.batch_worker.specs.Held.{notes_of}
@@ -34,8 +34,8 @@ settles (Rename slot scan path) = 0
 settles (Seen slot changed) = 0
 settles (Forget slot epoch end) = 0
 
--- what was issued and noted is what files told; each parcel was taken by a worker or is elsewhere, and each note was collected or is
--- elsewhere. Where each is, the rounds know as their passes meet; what files told fits it turn by turn
+-- what was issued and noted is what files reported; each parcel was taken by a worker or is elsewhere, and each note was collected or is
+-- elsewhere. Where each is, the rounds know as their passes meet; what files reported fits it turn by turn
 pub record FitBooks (files : List Turned) (workers : List Taken) (collected : List Note) : Type 0 where
   pub issued : List Parcel
   pub noted : List Note

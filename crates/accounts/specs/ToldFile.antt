@@ -1,5 +1,5 @@
--- What was told of a file (this project's profile): its history goes on from how it was opened and asked for its key, at moments that the
--- clock gave; each event is told by the path that the file had then; its end may be found where files are read once, or where it was
+-- What was reported of a file (this project's profile): its history goes on from how it was opened and asked for its key, at moments that the
+-- clock gave; each event is reported by the path that the file had then; its end may be found if files are read once, or if it was
 -- removed; and its looks are those of its tail. This outlives the harvester.
 use Rattle.std.specs.Prelude.{◌≡◌, ◌⊎◌, ℕ, false, true, List, [], ◌∷◌, ◌++◌, Contains, Option, IfSome, flat_map}
 use Rattle.std.specs.List.{AllByRecursion}
@@ -14,19 +14,19 @@ use Rattle.accounts.specs.Opened.{IsTailOf, Opened}
 use Rattle.accounts.specs.Turned.{Turned}
 use Rattle.accounts.specs.Watch.{AreNamesFrom, MayFindEnd, Name, Watch, last_path}
 
--- the first is the one with which the file was begun, and is told from the place with which it was
+-- the first is the one with which the file was begun, and is reported from the place with which it was
 abbrev pub AreEpochsFrom : ℕ → ℕ → List Telling → Type 0
 AreEpochsFrom epoch base [] = ⊥
 AreEpochsFrom epoch base (first ∷ later) = (first.epoch ≡ epoch) × (first.start ≡ base) × AreNumberedFrom epoch later
 
 -- ---- by which paths
 
--- the event was told by this path, at one of these moments
+-- the event was reported by this path, at one of these moments
 pub record IsToldBy (path moments : List ℕ) (event : ToldEvent) : Type 0 where
   pub path_is : event.path ≡ path
   pub given : Contains moments event.now
 
--- in order: first those that were told before it had the next name, and then those that were told since
+-- in order: first those that were reported before it had the next name, and then those that were reported since
 abbrev pub AreToldInTurn : List ℕ → List ℕ → List Name → List ToldEvent → Type 0
 AreToldInTurn moments path [] told = AllByRecursion (IsToldBy path moments) told
 AreToldInTurn moments path (next ∷ names) told =
@@ -38,7 +38,7 @@ events_in history = flat_map (λ telling. telling.told) (tellings_in history)
 
 -- ---- its history
 
--- the history of a file that was opened so, which nothing was told but turns at some of these moments, and what scans told
+-- the history of a file that was opened this way, to which nothing was given but turns at some of these moments, and what scans reported
 pub record IsHistoryOf (watch : Watch) (opened : Opened) (moments : List ℕ) (history : History) : Type 0 where
   pub rule : history.rule ≡ opened.rule
   pub processors_are : history.processors ≡ watch.processors
@@ -49,7 +49,7 @@ pub record IsHistoryOf (watch : Watch) (opened : Opened) (moments : List ℕ) (h
   pub rise : AreNamesFrom 0 names
   pub renamed : AllByRecursion (watch.renamed opened) names
   pub path : history.path ≡ last_path opened.begin.path names
-  -- later turns may find its end, and some turn might, only where files are read once or it was removed
+  -- later turns may find its end, and some turn might, only if files are read once or it was removed
   pub ends : history.ends ≡ true → MayFindEnd watch opened
   pub may_end : history.may_end ≡ true → MayFindEnd watch opened
   pub not_forgotten : history.forgets ≡ false
@@ -57,16 +57,16 @@ pub record IsHistoryOf (watch : Watch) (opened : Opened) (moments : List ℕ) (h
   pub at : StandInOrder history.moments moments
   pub told : AreToldInTurn moments opened.begin.path names (events_in history)
 
--- its end was found, and all complete lines are told
+-- its end was found, and all complete lines are reported
 pub record IsToldToItsEnd (history : History) : Type 0 where
   pub ended : history.stage ≡ Ended
   pub all_told : left_to_tell history ≡ []
 
--- so it is, or it was found to have another key, and is read no further
+-- the same holds, or it was found to have another key, and is read no further
 abbrev pub IsReadThrough : History → Type 0
 IsReadThrough history = IsToldToItsEnd history ⊎ (history.stage ≡ Changed)
 
--- of what its tail tells, where that does
+-- by what its tail reports, if that is known
 pub record IsToldFile (watch : Watch) (opened : Opened) (moments : List ℕ) (turned : Turned) (told : Option TailHistory) : Type 0 where
   pub slot : turned.slot ≡ opened.begin.slot
   pub history : IsHistoryOf watch opened moments turned.history

@@ -1,5 +1,6 @@
--- What a run tells its keeper (this project's profile): how each file begins, moments of the last changes of files, paths that they have since, and
--- where they end once they were removed; and how each slot of a hidden row begins, and that its row goes. Nothing is said of their order but that all notes, told and collected, are orderly.
+-- What a run reports to its keeper (this project's profile): how each file begins, moments of the last changes of files, paths that they
+-- have since, and at which place they end once they were removed; and how each slot of a hidden row begins, and that its row goes. Nothing
+-- is said of their order but that all notes, reported and collected, are orderly.
 use Rattle.std.specs.Prelude.{◌≡◌, ◌⊎◌, ℕ, ◌≤◌, List, ◌++◌, Contains, Some}
 use Rattle.std.specs.List.{AllByRecursion}
 use Rattle.harvester.specs.History.{told_to}
@@ -50,7 +51,7 @@ pub record IsNamingOf (run : Run) (file : Filed) (note : Note) : Type 0 where
   pub shown : WasRenamedSince run file.opened name
   pub is : note ≡ Rename file.opened.begin.slot name.scan name.path
 
--- the Forget of a file that was removed: its last epoch, and where all that was told of it ends
+-- the Forget of a file that was removed: its last epoch, and where all that was reported of it ends
 pub record IsForgetOf (file : Filed) (note : Note) : Type 0 where
   pub removal : Removal
   pub removed : file.removed ≡ Some removal
@@ -72,7 +73,7 @@ pub record AreToldNotes (run : Run) (files : List Filed) (hiddens : List Hidden)
   pub begun : AllByRecursion (IsNoted told) files
   pub hidden_begun : AllByRecursion (λ hidden. Contains told (hidden_begin hidden)) hiddens
 
--- these notes are, as often, those that were told and those that were collected, and they are orderly
+-- these notes are, as often, those that were reported and those that were collected, and they are orderly
 pub record AreMixed (told collected notes : List Note) : Type 0 where
   pub often : AsOften notes (told ++ collected)
   pub orderly : AreOrderly notes

@@ -1,6 +1,6 @@
 -- What a file gave so far that a harvester turns (this project's profile): a parcel for each event that is shipped, a
 -- settlement for each that a rule dropped, and an announcement for each epoch but the first. Each is given once, in the order in
--- which it is told.
+-- which it is reported.
 use Rattle.std.specs.Prelude.{ℕ, ◌+◌, List, [], ◌∷◌, ◌++◌, length}
 use Rattle.std.specs.List.{flat_map}
 use Rattle.harvester.specs.History.{History, Telling}
@@ -46,7 +46,7 @@ settlements_of slot epoch told = flat_map (λ one. settlements_by slot epoch one
 abbrev pub settlements_in : Slot → Telling → List Note
 settlements_in slot telling = settlements_of slot telling.epoch telling.told
 
--- of an epoch behind the first
+-- of an epoch after the first
 abbrev pub announced_in : Slot → Telling → List Note
 announced_in slot telling = Announce slot (record { 0 = telling.epoch }) ∷ settlements_in slot telling
 
@@ -59,7 +59,7 @@ notes_told turned = notes_in turned.slot (tellings_in turned.history)
 
 -- ---- spans
 
--- how many events were told
+-- how many events were reported
 abbrev pub events_in : List Telling → ℕ
 events_in [] = 0
 events_in (telling ∷ tellings) = length telling.told + events_in tellings

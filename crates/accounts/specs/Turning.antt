@@ -1,4 +1,4 @@
--- Harvesters that stand for what was told of their files (this project's profile), and what some turns of them gave.
+-- Harvesters that stand for what was reported of their files (this project's profile), and what some turns of them gave.
 use Rattle.std.specs.Prelude.{◌≡◌, ℕ, ◌+◌, Bool, true, ◌||◌, List, [], ◌∷◌, ◌++◌, Contains, IfSome, IsTrue, Option, map}
 use Rattle.std.specs.List.{flat_map}
 use Rattle.harvester.specs.HasTold.{HasTold}
@@ -14,19 +14,19 @@ use Rattle.accounts.specs.ToldFile.{IsToldFile, IsToldToItsEnd}
 use Rattle.accounts.specs.Turned.{Turned, notes_told, parcels_told, spans_in}
 use Rattle.accounts.specs.Watch.{Watch}
 
--- each of the first stands so to that at its place in the second, which is as long
+-- each of the first has this relation to that at its place in the second, which is as long
 abbrev pub Pairs : {A B : Type 0} → (A → B → Type 0) → List A → List B → Type 0
 Pairs R [] [] = Unit {0}
 Pairs R [] (y ∷ ys) = ⊥
 Pairs R (x ∷ xs) [] = ⊥
 Pairs R (x ∷ xs) (y ∷ ys) = R x y × Pairs R xs ys
 
--- it is at the end of its file as that was looked at: no asking for the key is open, and where the end might be found, all is told
+-- it is at the end of its file as that was looked at: no asking for the key is open, and if the end might be found, all is reported
 pub record IsAtItsEnd (once : Bool) (history : History) : Type 0 where
   pub asks_nothing : AsksNothing history.stage
   pub told : (once || history.ends) ≡ true → IsToldToItsEnd history
 
--- where files are read once, each turn was made so that it might find the end
+-- if files are read once, each turn was made so that it might find the end
 pub record IsTurnedSo {T : Type 0} (numbers : T → Option (ℕ × ℕ)) (told : T → Option TailHistory) (watch : Watch) (files : List Opened) (moments : List ℕ) (turned : Turned) (harvester : Harvester T) : Type 0 where
   pub has_told : HasTold numbers told turned.history harvester
   pub opened : Opened

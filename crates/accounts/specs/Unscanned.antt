@@ -1,4 +1,4 @@
--- A run that ended before it scanned (this project's profile), as where its registry could not be opened: it listed nothing, opened no
+-- A run that ended before it scanned (this project's profile), as when its registry could not be opened: it listed nothing, opened no
 -- file and made no connection.
 use Rattle.std.specs.Prelude.{◌≡◌, ℕ, ◌≢◌, ◌≤◌, List, [], slice_get, None, Some}
 use Rattle.std.specs.List.{AllByRecursion}

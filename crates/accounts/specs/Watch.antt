@@ -1,5 +1,5 @@
 -- How a run watches its files (this project's profile): by which processors their events are changed, whether it reads them once, and what
--- its scans may tell of a file while a tail of it is open.
+-- its scans may report of a file while a tail of it is open.
 use Rattle.std.specs.Prelude.{◌≡◌, ◌⊎◌, ℕ, ◌+◌, ◌≤◌, Bool, true, List, [], ◌∷◌}
 use Rattle.event_tree.specs.declared.processor_rule.ProcessorRule.{ProcessorRule}
 use Rattle.accounts.specs.Opened.{Opened}

@@ -1,4 +1,4 @@
--- What the scans of a run tell of a file that it opened (this project's profile): that it was removed since, and by which paths it is known
+-- What the scans of a run report of a file that it opened (this project's profile): that it was removed since, and by which paths it is known
 -- since.
 use Rattle.std.specs.Prelude.{◌≡◌, ℕ, List, ◌∷◌, ◌++◌, Contains, length}
 use Rattle.std.specs.List.{AllByRecursion}
@@ -7,7 +7,7 @@ use Rattle.kept_rows.specs.Scans.{IsBehind, IsFirstPath, IsWhole, ShowsFile}
 use Rattle.accounts.specs.Opened.{Opened}
 use Rattle.accounts.specs.Watch.{Name, Watch}
 
--- a whole scan that was made behind the opening did not show the file with its key
+-- a whole scan that was made after the opening did not show the file with its key
 pub record WasRemovedSince (run : Run) (opened : Opened) : Type 0 where
   pub scan : Scan
   pub of_run : Contains run.scans scan
@@ -15,7 +15,7 @@ pub record WasRemovedSince (run : Run) (opened : Opened) : Type 0 where
   pub later : IsBehind opened.opening scan
   pub hidden : (path : List ℕ) → ¬ (ShowsFile run scan opened.begin.key opened.number path)
 
--- the scan of the name's number showed the key by its path first; it was made behind the opening, as those after it were
+-- the scan of the name's number showed the key by its path first; it was made after the opening, as those after it were
 pub record WasRenamedSince (run : Run) (opened : Opened) (name : Name) : Type 0 where
   pub front : List Scan
   pub scan : Scan

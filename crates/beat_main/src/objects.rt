@@ -52,7 +52,7 @@ pub fn real_surroundings<'a, R: AllocGlobal + Clock + Files<File = File> + Net<S
     })
 }
 
-/// All in memory: one file of so many generated lines, receivers that acknowledge all, an empty registry, and a clock
+/// All in memory: one file of this many generated lines, receivers that acknowledge all, an empty registry, and a clock
 /// that starts at 0 and moves by pauses only, so that each run is the same.
 pub fn generated_surroundings(
     alloc: Global,

@@ -1,4 +1,4 @@
-//! A harvester over a file in memory, and `event_payload` alone.
+//! A harvester over a file in memory, and `event_payload` by itself.
 ghost use Rattle.std.specs.Prelude.{◌≡◌, IfOk, None};
 ghost use Rattle.harvester.specs.InRange.{IsReadable};
 ghost use Rattle.wire_base.specs.Ranges.{IsBegin};
@@ -12,7 +12,7 @@ use wire_base::{Begin, Epoch, MAX_PLACE, Moment, NoMemory, Slot, Text};
 
 const MESSAGE_MAX_BYTES: u64 = 10_485_760;
 
-/// So many lines the piece has that the file repeats.
+/// How many lines the piece has that the file repeats.
 const PIECE_LINES: usize = 1_024;
 
 const PATH: &str = "/var/log/app.log";
@@ -20,7 +20,7 @@ const PATH: &str = "/var/log/app.log";
 /// No file has more bytes.
 const MAX_BYTES: u64 = 1 << 48;
 
-/// An open file in memory that has one piece over and over. It tells nothing.
+/// An open file in memory that has one piece over and over. Its looks are not known.
 #[derive(Drop)]
 struct PieceTail<'a> {
     piece: &'a [u8],
@@ -28,7 +28,7 @@ struct PieceTail<'a> {
 }
 
 impl<'a> PieceTail<'a> {
-    /// A file of so many bytes.
+    /// A file of this many bytes.
     fn new(piece: &'a [u8], length: u64) -> PieceTail<'a> {
         PieceTail { piece, length }
     }
@@ -111,7 +111,7 @@ fn open<'a>(alloc: Global, tail: PieceTail<'a>) -> Result<Harvester<PieceTail<'a
     Harvester::open(alloc, &rule, &[], begin(alloc)?, tail, Moment(0)).map_err(|_| NoMemory)
 }
 
-/// Whether a turn told an event; none at the end of the file, where none waits.
+/// Whether a turn reported an event; none at the end of the file, if none waits.
 fn told_one(alloc: Global, harvester: &mut Harvester<PieceTail<'_>>) -> Option<bool> {
     if harvester.changed() {
         return None;
@@ -135,7 +135,7 @@ fn told(alloc: Global, harvester: &mut Harvester<PieceTail<'_>>) -> u64 {
     events
 }
 
-/// How many events a file has of so many lines of so many bytes.
+/// How many events a file has of this many lines of this many bytes.
 pub(crate) fn harvested(alloc: Global, bytes: usize, lines: u64) -> Result<u64, NoMemory> {
     let message = "x".repeat(alloc, bytes)?;
     let piece = format!(in alloc; "{message}\n")?.repeat(alloc, PIECE_LINES)?;
@@ -144,7 +144,7 @@ pub(crate) fn harvested(alloc: Global, bytes: usize, lines: u64) -> Result<u64, 
     Ok(told(alloc, &mut harvester))
 }
 
-/// How many payloads of messages of so many bytes are written, of so many.
+/// How many payloads of messages of this many bytes are written, of this many.
 pub(crate) fn payloads(alloc: Global, bytes: usize, many: u64) -> Result<u64, NoMemory> {
     let path = text(alloc, PATH)?;
     let message = "x".repeat(alloc, bytes)?;

@@ -8,8 +8,8 @@
 //! - `commits ROWS TURNS`: TURNS commits of ROWS rows to the areas `bench.a` and `bench.b` in the folder where it runs; how
 //!   many rows that is.
 //! - `spans STRIDE SPANS`: a tracker notes SPANS spans of ten bytes of one file, each hundred thousand of them by strides of
-//!   STRIDE; up to where all is settled.
-//! - `harvester BYTES LINES`: a harvester over a file of LINES lines of BYTES bytes; how many events it told.
+//!   STRIDE; the place up to which all is settled.
+//! - `harvester BYTES LINES`: a harvester over a file of LINES lines of BYTES bytes; how many events it reported.
 //! - `payloads BYTES EVENTS`: the payloads of EVENTS such messages, without a harvester; how many there were.
 #![tactic(auto)]
 
@@ -53,7 +53,7 @@ fn committed(rt: &HostRuntime, rows: u64, turns: u64) -> anyhow::Result<u64> {
     Ok(commits(alloc, &mut a, &mut b, rows, turns)?)
 }
 
-/// The number that a word says; a word that is absent or says none is 0.
+/// The number that an argument gives; one that is absent or gives none is 0.
 fn number(word: Option<&String>) -> u64 {
     match word {
         Some(word) => read_decimal(word.as_bytes()).unwrap_or(0),

@@ -16,7 +16,7 @@ const MAX_ROWS: usize = 65_536;
 
 const SPAN_BYTES: u64 = 10;
 
-/// So many spans are permuted among each other.
+/// How many spans are permuted among each other.
 const BLOCK: u64 = 100_000;
 
 /// The text, if it is no longer than a path.
@@ -46,7 +46,7 @@ fn row(alloc: Global, number: u64) -> Result<Row, NoMemory>
     })
 }
 
-/// Operations that set so many rows.
+/// Operations that set this many rows.
 fn settings(alloc: Global, count: u64) -> Result<Vec<Op>, NoMemory>
     ensures { IfOk result (λ ops. All IsOp ops.items) }
 {
@@ -73,7 +73,7 @@ fn commit<D: Disk>(
     store.commit(alloc, a, b, ops)
 }
 
-/// How many rows were committed with so many commits of so many.
+/// How many rows were committed by this many commits of this many rows each.
 pub(crate) fn commits<D: Disk>(
     alloc: Global,
     a: &mut D,
@@ -119,7 +119,7 @@ fn settle(alloc: Global, tracker: &mut Tracker, number: u64) -> Result<(), NoMem
     tracker.note(alloc, settled).map_err(|_| NoMemory)
 }
 
-/// Up to where all is settled once so many spans are.
+/// The place up to which all is settled once this many spans are.
 pub(crate) fn settled(alloc: Global, stride: u64, count: u64) -> Result<u64, NoMemory> {
     let mut tracker = Tracker::new(alloc, &Rows::new(alloc))?;
     tracker.note(alloc, begin(alloc)?).map_err(|_| NoMemory)?;

@@ -94,7 +94,7 @@ impl<L: Link> Carrier<L> {
         }
     }
 
-    /// Puts so many parcels into the queue, or as many as there is room and memory for; how many.
+    /// Puts this many parcels into the queue, or as many as there is room and memory for; how many.
     fn load<R: Wait>(&mut self, rt: &R, alloc: Global, many: u64) -> u64 {
         for put in 0..many {
             if !self.put_one(rt, alloc) {
@@ -132,7 +132,7 @@ impl<L: Link> Carrier<L> {
     }
 }
 
-/// How many parcels of so many are acknowledged. It ends early if the worker fails.
+/// How many of this many parcels are acknowledged. It ends early if the worker fails.
 pub(crate) fn carry<R: Wait, W: Wire, C: Clock>(
     rt: &R,
     alloc: Global,

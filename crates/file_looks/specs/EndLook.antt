@@ -1,6 +1,6 @@
 -- Where a segment of looks found the file's end (Filebeat reference, filestream input, `close.reader.on_eof`; this
--- project's profile): a look at the length that was not below the place up to which was read, and directly behind it
--- a read at that place that gave nothing. And up to where it had read after some of its looks.
+-- project's profile): a look at the length that was not below the place up to which was read, and directly after it
+-- a read at that place that gave nothing. And up to which place it had read after some of its looks.
 use Rattle.std.specs.Prelude.{◌≡◌, ℕ, ◌≤◌, List, ◌∷◌, ◌++◌}
 use Rattle.outside.specs.declared.history.Look.{Look}
 use Rattle.outside.specs.declared.history.Question.TheVariants.{Length, ReadAt}

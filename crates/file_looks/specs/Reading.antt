@@ -17,11 +17,11 @@ bytes_by file (ReadAt place count) sight = take count (drop place (life_of file 
 abbrev pub bytes_at : File → Step → List ℕ
 bytes_at file step = if step.counts then bytes_by file step.look.question step.look.sight else []
 
--- the bytes that it read, one read behind the other
+-- the bytes that it read, one read after another
 abbrev pub bytes_read : File → Segment → List ℕ
 bytes_read file segment = flat_map (bytes_at file) (steps_in segment)
 
--- the life that was last read, where so many bytes of the one that is present were read now
+-- the life that was last read, if this many bytes of the one that is present were read now
 abbrev pub life_with : ℕ → ℕ → ℕ → ℕ
 life_with life present zero = life
 life_with life present (suc more) = present
@@ -29,17 +29,17 @@ life_with life present (suc more) = present
 abbrev pub life_behind : ℕ → Step → ℕ
 life_behind life step = life_with life step.look.sight.life (read_by step)
 
--- the life that was last read after these steps; it is the first one where they read nothing
+-- the life that was last read after these steps; it is the first one if they read nothing
 abbrev pub last_life : ℕ → List Step → ℕ
 last_life life [] = life
 last_life life (step ∷ steps) = last_life (life_behind life step) steps
 
--- a read stands at this place
+-- a read is at this place
 abbrev pub StandsAt : ℕ → Question → Type 0
 StandsAt place Length = Unit {0}
 StandsAt place (ReadAt at count) = at ≡ place
 
--- each read that counts stands at the place up to which was read
+-- each read that counts is at the place up to which was read
 abbrev pub ReadOn : List Step → Type 0
 ReadOn steps = AllByRecursion (λ step. step.counts ≡ true → StandsAt step.place step.look.question) steps
 

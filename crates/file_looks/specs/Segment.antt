@@ -11,9 +11,9 @@ use Rattle.file_looks.specs.Step.{Step, falls_below, place_behind, read_by, reac
 pub record Segment : Type 0 where
   -- the place from which it reads
   pub place : ℕ
-  -- the look that found the length below the place of the segment before, where it is not the first
+  -- the look that found the length below the place of the segment before, if it is not the first
   pub fall : Option Look
-  -- the looks behind that one
+  -- the looks after that one
   pub looks : List Look
 
 -- the looks up to the first that begins a segment, and the segments from there on
@@ -52,11 +52,11 @@ first_of (look ∷ looks) = Some look.sight
 abbrev pub first_sight : Segment → Option Sight
 first_sight segment = first_of (looks_in segment)
 
--- its steps; a read directly behind the look with which it begins does not count
+-- its steps; a read directly after the look with which it begins does not count
 abbrev pub steps_in : Segment → List Step
 steps_in segment = steps_from false segment.place segment.looks
 
--- up to where it read
+-- up to which place it read
 abbrev pub read_to : Segment → ℕ
 read_to segment = place_behind segment.place (steps_in segment)
 
@@ -75,7 +75,7 @@ pub record BeginsBehind (before segment : Segment) : Type 0 where
   pub asks : look.question ≡ Length
   pub below : look.sight.length < read_to before
 
--- and so does each behind it
+-- and so does each after it
 abbrev pub FollowOn : Segment → List Segment → Type 0
 FollowOn before [] = Unit {0}
 FollowOn before (segment ∷ segments) = BeginsBehind before segment × FollowOn segment segments

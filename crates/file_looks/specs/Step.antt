@@ -1,6 +1,6 @@
--- Where a tail stands as it looks (Filebeat reference, filestream input; this project's profile): up to where it has
--- read, and whether the look is a read that counts. A read counts only directly behind a look at the length that was
--- not below the place where the tail stood; every other read only asked which file this is.
+-- How far a tail is as it looks (Filebeat reference, filestream input; this project's profile): up to which place it has
+-- read, and whether the look is a read that counts. A read counts only directly after a look at the length that was
+-- not below the place where the tail was; every other read only asked which file this is.
 use Rattle.std.specs.Prelude.{ℕ, ◌+◌, Bool, false, nat_le, nat_lt, List, [], ◌∷◌, if◌then◌else◌}
 use Rattle.outside.specs.declared.history.Look.{Look}
 use Rattle.outside.specs.declared.history.Question.{Question}
@@ -17,7 +17,7 @@ abbrev pub reaches : ℕ → Question → Sight → Bool
 reaches place Length sight = nat_le place sight.length
 reaches place (ReadAt at count) sight = false
 
--- a look is a read that counts, where `behind` says that it stands directly behind a look that reaches the place
+-- a look is a read that counts, if `behind` says that it is directly after a look that reaches the place
 abbrev pub is_counted : Bool → Question → Bool
 is_counted behind Length = false
 is_counted behind (ReadAt at count) = behind
@@ -29,7 +29,7 @@ given_by (ReadAt at count) = count
 
 pub record Step : Type 0 where
   pub look : Look
-  -- up to where was read before
+  -- up to which place was read before
   pub place : ℕ
   -- it is a read that counts
   pub counts : Bool
@@ -48,7 +48,7 @@ steps_from behind place (look ∷ looks) =
     step_at behind place look
     ∷ steps_from (reaches place look.question look.sight) (place + read_by (step_at behind place look)) looks
 
--- up to where was read after them
+-- up to which place was read after them
 abbrev pub place_behind : ℕ → List Step → ℕ
 place_behind place [] = place
 place_behind place (step ∷ steps) = place_behind (place + read_by step) steps

@@ -24,7 +24,7 @@ pub fn segments_go_on()
         GoOn (segments_of place looks) (segments_of place (looks ++ more)) }
 {}
 
-/// The looks that a tail tells are of its file, and each is no earlier than the one before it: so after each call that
+/// The looks that a tail reports are of its file, and each is no earlier than the one before it: this holds after each call that
 /// is a look. A law; it computes nothing.
 pub fn tails_tell_looks()
     ensures length { (told : TailHistory) (answer : ℕ) (after : Option TailHistory) →
@@ -34,7 +34,7 @@ pub fn tails_tell_looks()
         TellsRead (Some told) at into (Ok count) after → IfSome after TellsLooks }
 {}
 
-/// Where truncations are seen, each segment read the bytes of one life from its place on: of the life that was last
+/// If truncations are seen, each segment read the bytes of one life from its place on: of the life that was last
 /// read before it, or, from the file's first byte on, of another. A law; it computes nothing.
 pub fn reads_one_life()
     ensures { (file : File) (before : Sight) (place life : ℕ) (looks : List Look) →
@@ -43,7 +43,7 @@ pub fn reads_one_life()
         SeesTruncations life (segments_of place looks) → EachReadsLife file life (segments_of place looks) }
 {}
 
-/// Where truncations are seen at all looks, they are seen at the first ones. A law; it computes nothing.
+/// If truncations are seen at all looks, they are seen at the first ones. A law; it computes nothing.
 pub fn truncations_were_seen()
     ensures { (life : ℕ) (before now : List Segment) → GoOn before now → SeesTruncations life now →
         SeesTruncations life before }

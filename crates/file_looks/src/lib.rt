@@ -1,14 +1,14 @@
 //! What the looks at an opened file show: what was read of it, of which life, and where its end was found.
 //!
-//! A tail tells its looks in their order. A look at the length that is below the place up to which was read finds a new
+//! A tail reports its looks in their order. A look at the length that is below the place up to which was read finds a new
 //! life; there the looks are cut into segments, and each of them reads one life from a place on. A read counts only
-//! directly behind a look at the length that was not below that place; every other one only asked which file this is.
+//! directly after a look at the length that was not below that place; every other one only asked which file this is.
 //! From this follow what a segment read, the life of which the last bytes came, the premise that truncations are seen,
 //! and where the file's end was found.
 //!
-//! The laws say that the segments are the ones that are meant, that a tail tells such looks whichever call comes next,
-//! that a segment reads one life where truncations are seen, and that what was found stays as the tail looks on.
-//! Definitions, laws and lemmas alone; nothing here runs.
+//! The laws say that the segments are the ones that are meant, that a tail reports such looks whichever call comes next,
+//! that a segment reads one life if truncations are seen, and that what was found stays as the tail looks on.
+//! Only definitions, laws and lemmas; nothing here runs.
 #![tactic(auto)]
 
 mod laws;

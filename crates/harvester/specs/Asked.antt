@@ -1,4 +1,4 @@
--- What asking the tail for its key gave, where the length had fallen (Filebeat reference, file identity).
+-- What asking the tail for its key gave, when the length had fallen (Filebeat reference, file identity).
 use Rattle.std.specs.Prelude.{◌≡◌, ◌≢◌, ℕ, Bool, true, false, List, [], Option, Some, Result, Ok, Err, IfOk}
 use Rattle.file_identity.specs.Answers.{with_numbers}
 use Rattle.file_identity.specs.Asking.{IsAsking, IsCutAsking, given_key}

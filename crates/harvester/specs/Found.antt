@@ -1,4 +1,4 @@
--- What one look at the length of a harvester's tail gave, with the read behind it (Filebeat reference, filestream input; this
+-- What one look at the length of a harvester's tail gave, with the read after it (Filebeat reference, filestream input; this
 -- project's profile).
 use Rattle.std.specs.Prelude.{◌≡◌, ℕ, ◌<◌, ◌≤◌, List, [], ◌∷◌, ◌++◌, length, Option, Some, Result, Ok, Err, IfSome}
 use Rattle.file_looks.specs.EndLook.{HasEndLook}
@@ -15,7 +15,7 @@ use Rattle.harvester.specs.HasTold.{HasTold}
 use Rattle.harvester.specs.History.{Asks, History, Reads, Stage, read_to, with_read, with_stage}
 use Rattle.harvester.specs.Looked.{IsLookedAt}
 
--- where the file then stands
+-- the state of the file then
 abbrev pub stage_after : Result Found TurnError → Stage
 stage_after (Ok Less) = Asks
 stage_after (Ok More) = Reads
@@ -27,7 +27,7 @@ stage_found Less = Asking
 stage_found More = Reading
 stage_found End = Reading
 
--- the bytes that were read, of which there are at most so many
+-- the bytes that were read, of which there are at most this many
 abbrev pub GaveBytes : ℕ → Result Found TurnError → List ℕ → Type 0
 GaveBytes most (Ok Less) bytes = bytes ≡ []
 GaveBytes most (Ok More) bytes = (0 < length bytes) × (length bytes ≤ most)
@@ -39,7 +39,7 @@ pub record FoundEnd (numbers : Option (ℕ × ℕ)) (history : History) (told : 
   pub looked : IsLookedAt numbers history told
   pub end_look : HasEndLook looked.last (read_to history.present)
 
--- the tail told two looks more: the length was not below the place, and the read at the place gave nothing
+-- the tail reported two more looks: the length was not below the place, and the read at the place gave nothing
 pub record LooksAtEnd (place : ℕ) (told : TailHistory) (after : Option TailHistory) : Type 0 where
   pub asked : Look
   pub read : Look
@@ -48,7 +48,7 @@ pub record LooksAtEnd (place : ℕ) (told : TailHistory) (after : Option TailHis
   pub gives_nothing : read.question ≡ ReadAt place 0
   pub kept : after ≡ Some (record told { looks = told.looks ++ asked ∷ read ∷ [] })
 
--- where the tail tells its looks, these found the end
+-- if the tail's looks are known, these found the end
 pub record IsAtEnd {T : Type 0} (numbers : T → Option (ℕ × ℕ)) (told : T → Option TailHistory) (before after : History) (old new : Harvester T) : Type 0 where
   pub looks : IfSome (told old.tail) (λ earlier. LooksAtEnd (read_to before.present) earlier (told new.tail))
   pub found : IfSome (told new.tail) (FoundEnd (numbers new.tail) after)

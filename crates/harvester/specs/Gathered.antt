@@ -15,11 +15,11 @@ use Rattle.wire_base.specs.declared.memory.NoMemory.{NoMemory}
 use Rattle.wire_base.specs.declared.numbers.Moment.{Moment}
 use Rattle.harvester.specs.declared.events.Events.{Events}
 
--- lines one behind the other
+-- lines one after another
 pub record Gathered : Type 0 where
-  -- of the events that were told
+  -- of the events that were reported
   pub told : List Line
-  -- of the event that is closed and not told yet
+  -- of the event that is closed and not reported yet
   pub closed : List Line
   -- of the event that no line has ended
   pub waiting : List Line
@@ -31,7 +31,7 @@ none_gathered = record { told = []; closed = []; waiting = [] }
 abbrev pub lines_of : Gathered → List Line
 lines_of of = of.told ++ (of.closed ++ of.waiting)
 
--- the closed event was told
+-- the closed event was reported
 abbrev pub all_told : Gathered → Gathered
 all_told of = record { told = of.told ++ of.closed; closed = []; waiting = of.waiting }
 
@@ -39,7 +39,7 @@ all_told of = record { told = of.told ++ of.closed; closed = []; waiting = of.wa
 abbrev pub all_flushed : Gathered → Gathered
 all_flushed of = record { told = of.told; closed = of.waiting; waiting = [] }
 
--- by rule, or flushed where it may be
+-- by rule, or flushed if it may be
 abbrev pub IsEnded : Rules → List ℕ → List Line → List Line → Type 0
 IsEnded rules licences closed waiting =
     IsNatural rules.events (closed ++ waiting) closed
@@ -89,12 +89,12 @@ pub record Moved (rules : Rules) (start : ℕ) (fed licences : List ℕ) (of : G
   pub is : IsGathered rules start fed licences after events
   pub last_line : HasMoved of after last now events.last_line
 
--- where none is closed, all complete lines are gathered
+-- if none is closed, all complete lines are gathered
 pub record Found (rules : Rules) (start : ℕ) (fed licences : List ℕ) (of : Gathered) (last now : Moment) (result : Result Bool NoMemory) (events : Events) : Type 0 where
   pub moved : Moved rules start fed licences of last now events
   pub all : IfOk result (λ found. found ≡ false → complete_lines rules.lines start fed ≡ lines_of moved.after)
 
--- where the event is flushed that was just closed
+-- when the event is flushed that was just closed
 abbrev pub flushed_at : Option Group → List ℕ
 flushed_at closed = map (λ group. group.span.end) (option_to_list closed)
 

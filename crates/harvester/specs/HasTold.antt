@@ -24,7 +24,7 @@ begin_of harvester = harvester.reader.begin
 abbrev pub IsChanged : {T : Type 0} → Harvester T → Type 0
 IsChanged harvester = (harvester.reader.stage ≡ Changed) ⊎ (harvester.reader.stage ≡ Over)
 
--- the looks of the tail so far, where it tells them
+-- the looks of the tail so far, if they are known
 abbrev pub looks_so_far : Option TailHistory → List Look
 looks_so_far None = []
 looks_so_far (Some told) = told.looks

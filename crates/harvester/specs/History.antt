@@ -1,6 +1,6 @@
--- What a harvester told of its file so far (Filebeat reference, filestream input and multiline messages; this project's
--- profile): for each epoch what was read of it, where an event may be flushed, and the events that were told, each with
--- its fate. The file of an epoch is told from its start on: the place with which the harvester began, or the first byte.
+-- What a harvester reported of its file so far (Filebeat reference, filestream input and multiline messages; this project's
+-- profile): for each epoch what was read of it, where an event may be flushed, and the events that were reported, each with
+-- its fate. The file of an epoch is reported from its start on: the place with which the harvester began, or the first byte.
 use Rattle.std.specs.Prelude.{◌≡◌, ℕ, ◌+◌, ◌-◌, ◌≤◌, ltb, cond, Bool, true, false, List, [], ◌∷◌, ◌++◌, drop, length}
 use Rattle.event_tree.specs.declared.input_rule.InputRule.{InputRule}
 use Rattle.event_tree.specs.declared.processor_rule.ProcessorRule.{ProcessorRule}
@@ -23,18 +23,18 @@ pub record Telling : Type 0 where
   pub licences : List ℕ
   pub told : List ToldEvent
 
--- the place behind the last event that was told, and the place behind the last byte that was read
+-- the place after the last event that was reported, and the place after the last byte that was read
 abbrev pub told_to : Telling → ℕ
 told_to telling = last_end telling.start (spans_of telling.told)
 
 abbrev pub read_to : Telling → ℕ
 read_to telling = telling.start + length telling.bytes
 
--- where the file stands
+-- the state of the file
 pub data Stage : Type 0 where
   -- it is read on
   Reads : Stage
-  -- its length was below what was read, and its key was not told yet
+  -- its length was below what was read, and its key was not known yet
   Asks : Stage
   -- its end was found, and it is read no further
   Ended : Stage
@@ -48,7 +48,7 @@ pub record History : Type 0 where
   pub processors : List ProcessorRule
   -- with which it was opened
   pub begin : Begin
-  -- what the tail had told before
+  -- what the tail had reported before
   pub before : List Look
   -- the path that was given last
   pub path : List ℕ
@@ -76,7 +76,7 @@ timeout_in history = timeout_of history.rule.multiline
 abbrev pub complete_in : History → List Line
 complete_in history = complete_lines history.rule.lines history.present.start history.present.bytes
 
--- those behind what was told
+-- those after what was reported
 abbrev pub left_to_tell : History → List Line
 left_to_tell history =
     complete_lines history.rule.lines (told_to history.present) (drop (told_to history.present - history.present.start) history.present.bytes)
@@ -87,7 +87,7 @@ pub record HasBytes (start : ℕ) (bytes life : List ℕ) : Type 0 where
   pub more : List ℕ
   pub behind : drop start life ≡ bytes ++ more
 
--- the events are told of each life that has the bytes which were read
+-- the events are reported of each life that has the bytes which were read
 abbrev pub IsTelling : Rules → Telling → Type 0
 IsTelling rules telling =
     (life : List ℕ) → HasBytes telling.start telling.bytes life → AreTold rules telling.licences life telling.start telling.told

@@ -1,6 +1,6 @@
 -- What the looks of a harvester's tail have to do with its history (Filebeat reference, filestream input; this project's
--- profile): each epoch was read through one segment of the looks since the opening. Behind these stand the looks from where
--- the length was below what was read and the key was not told, or was another; no asking among these gave it.
+-- profile): each epoch was read through one segment of the looks since the opening. After these come the looks from where
+-- the length was below what was read and the key was not known, or was another; no asking among these gave it.
 use Rattle.std.specs.Prelude.{◌≡◌, ℕ, ◌<◌, true, List, [], ◌∷◌, ◌++◌, Option, IfSome}
 use Rattle.std.specs.List.{AllByRecursion}
 use Rattle.file_identity.specs.Answers.{IsFingerprint, with_numbers}
@@ -45,7 +45,7 @@ pub record HasFallen (h : History) (looks : List Look) : Type 0 where
   pub below : fall.sight.length < history.read_to h.present
   pub only_reads : AllByRecursion (λ look. IsRead look.question) later
 
--- and it was not told yet: a fault cut each asking, and none for a fingerprint gave the key
+-- and it was not known yet: a fault cut each asking, and none for a fingerprint gave the key
 pub record IsUnanswered (h : History) (file : File) (looks : List Look) : Type 0 where
   pub fallen : HasFallen h looks
   pub cut : AreCutAskings h.rule.file_identity fallen.later
@@ -57,7 +57,7 @@ pub record HasChanged (h : History) (file : File) (looks : List Look) : Type 0 w
   pub other : HasOtherKey h.rule h.begin.key h.begin.path file fallen.later
   pub lost : ¬ (SomeAskingGives h.rule h.begin.key h.begin.path file fallen.later)
 
--- or the same, where no epoch is left
+-- or the same, if no epoch is left
 pub record IsOver (h : History) (file : File) (looks : List Look) : Type 0 where
   pub fallen : HasFallen h looks
   pub same : StillHasKey h.rule h.begin.key h.begin.path file fallen.later
@@ -81,6 +81,6 @@ pub record IsLookedAt (numbers : Option (ℕ × ℕ)) (h : History) (told : Tail
   pub stand_behind : StandBehind h (with_numbers numbers told.file) h.stage beyond
   pub end_look : h.stage ≡ Ended → HasEndLook last (history.read_to h.present)
 
--- where the tail tells its looks
+-- if the tail's looks are known
 abbrev pub AreLookedAt : Option (ℕ × ℕ) → History → Option TailHistory → Type 0
 AreLookedAt numbers h told = IfSome told (IsLookedAt numbers h)

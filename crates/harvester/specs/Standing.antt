@@ -26,7 +26,7 @@ stage_of reader.Ended = Ended
 stage_of reader.Changed = Changed
 stage_of reader.Over = Over
 
--- where the end may be found, it is
+-- if the end may be found, it is
 abbrev pub stage_behind_end : Bool → ReaderStage
 stage_behind_end true = reader.Ended
 stage_behind_end false = reader.Reading
@@ -39,15 +39,15 @@ given_path first (Some later) = later
 abbrev pub unfed : Held → List ℕ
 unfed held = take held.filled held.buffer
 
--- what was read of the present epoch was fed, or waits to be; of what was fed these lines are gathered, and the told events
--- are told
+-- what was read of the present epoch was fed, or waits to be; of what was fed these lines are gathered, and the reported events
+-- are reported
 pub record HasGathered (history : History) (held : Held) (of : Gathered) : Type 0 where
   pub fed : List ℕ
   pub bytes : history.present.bytes ≡ fed ++ unfed held
   pub gathered : IsGathered (rules_in history) history.present.start fed history.present.licences of held.events
   pub told_to : row_end history.present.start of.told ≡ held.told_to
 
--- with what it was opened, and what it was told since
+-- with what it was opened, and what it was given since
 pub record Follows (history : History) (held : Held) : Type 0 where
   pub begin : held.begin ≡ history.begin
   pub path : given_path held.begin.path held.renamed ≡ history.path
@@ -66,7 +66,7 @@ pub record HasMoments (history : History) (held : Held) : Type 0 where
   pub last_line : Contains history.moments held.events.last_line.0
   pub in_range : IsMoment held.read_at
 
--- up to where was read, and the room for the next read, in bytes
+-- up to which place was read, and the room for the next read, in bytes
 pub record HasPosition (history : History) (held : Held) : Type 0 where
   pub position : held.position ≡ read_to history.present
   pub in_range : IsPlace held.position
@@ -93,13 +93,13 @@ pub record HasHistory (held : Held) : Type 0 where
 abbrev pub AreAll : History → Gathered → Type 0
 AreAll history of = complete_in history ≡ lines_of of
 
--- then the last one is the last that was gathered; and where some are not, the last read gave it
+-- then the last one is the last that was gathered; and if some are not, the last read gave it
 abbrev pub HasLastLine : History → Held → Gathered → Type 0
 HasLastLine history held of =
     (AreAll history of × (held.events.last_line.0 ≡ history.last_line))
     ⊎ ((length (lines_of of) < length (complete_in history)) × (held.read_at.0 ≡ history.last_line))
 
--- where the file is read no further, all are gathered; at its end none waits
+-- if the file is read no further, all are gathered; at its end none waits
 abbrev pub IsGatheredAt : Stage → History → Gathered → Type 0
 IsGatheredAt Reads history of = Unit {0}
 IsGatheredAt Asks history of = AreAll history of
@@ -125,7 +125,7 @@ abbrev pub EndsLines : History → ℕ → Type 0
 EndsLines history place = (life : List ℕ) → HasBytes history.present.start history.present.bytes life →
     whole_lines_end history.rule.lines life history.present.start (read_to history.present) ≡ place
 
--- the event that waited was closed as it is, where the file's end was found or its timeout has passed
+-- the event that waited was closed as it is, if the file's end was found or its timeout has passed
 pub record WasClosed (history : History) (now : ℕ) (ended : Bool) (held : Held) : Type 0 where
   pub licences : List ℕ
   pub stands : StandsFor (with_present (with_licences licences history.present) history) held
@@ -145,7 +145,7 @@ pub record EndsAt (moments : List ℕ) (now : ℕ) : Type 0 where
   pub earlier : List ℕ
   pub are : moments ≡ earlier ++ now ∷ []
 
--- where an event is closed that is told with this span and fate, the history goes on with it
+-- if an event is closed that is reported with this span and fate, the history goes on with it
 abbrev pub TellsOne : History → ToldEvent → Held → Group → Type 0
 TellsOne history event after group =
     event.span ≡ group.span → event.fate ≡ fate_of (rules_in history) event.path group.span.start group.message event.now →

@@ -1,6 +1,6 @@
 -- Which looks one turn of a harvester adds to those of its tail (Filebeat reference, filestream input; this project's
--- profile). Where the file is read, a turn asks the length at most once. Where that is not below the place, it reads there,
--- once; where it is, it asks for the key, and again in a later turn while that met a fault.
+-- profile). If the file is read, a turn asks the length at most once. If that is not below the place, it reads there,
+-- once; if it is, it asks for the key, and again in a later turn while that hit a fault.
 use Rattle.std.specs.Prelude.{◌≡◌, ◌⊎◌, ℕ, ◌<◌, ◌≤◌, List, [], ◌∷◌, Option, Some, None, Result, Ok, Err, true, false}
 use Rattle.file_identity.specs.Answers.{with_numbers}
 use Rattle.file_identity.specs.Asking.{IsPartOfAsking}
@@ -41,13 +41,13 @@ IsRefused turn.ReadFault = Unit {0}
 IsRefused turn.NoMemory = Unit {0}
 IsRefused answer = ⊥
 
--- or it told a span
+-- or it reported a span
 abbrev pub TellsOrFails : Turn → Type 0
 TellsOrFails (turn.Issued parcel) = Unit {0}
 TellsOrFails (turn.Passed span rule) = Unit {0}
 TellsOrFails answer = IsRefused answer
 
--- one read at the place, or none where it failed or found no memory
+-- one read at the place, or none if it failed or found no memory
 abbrev pub IsReadAt : Turn → ℕ → List Look → Type 0
 IsReadAt answer place [] = IsRefused answer
 IsReadAt answer place (look ∷ []) = (count : ℕ) × (look.question ≡ ReadAt place count)
@@ -58,12 +58,12 @@ abbrev pub StandBehindLength : Held → File → Turn → ℕ → List Look → 
 StandBehindLength held file answer length looks =
     ((length < held.position) × AskForKey held answer file looks) ⊎ ((held.position ≤ length) × IsReadAt answer held.position looks)
 
--- of a turn that reads on; one that does not tells what was read, failed, or found no memory
+-- of a turn that reads on; any other reports what was read, failed, or found no memory
 abbrev pub AreOfReading : Held → Turn → File → List Look → Type 0
 AreOfReading held answer file [] = TellsOrFails answer
 AreOfReading held answer file (look ∷ looks) = (look.question ≡ Length) × StandBehindLength held file answer look.sight.length looks
 
--- by where the file stood as the turn began
+-- by the state of the file as the turn began
 abbrev pub AreOfTurn : Stage → Held → Turn → File → List Look → Type 0
 AreOfTurn Reading held answer file looks = AreOfReading held answer file looks
 AreOfTurn Asking held answer file looks = AskForKey held answer file looks
@@ -71,13 +71,13 @@ AreOfTurn Ended held answer file looks = looks ≡ []
 AreOfTurn Changed held answer file looks = looks ≡ []
 AreOfTurn Over held answer file looks = looks ≡ []
 
--- some such looks at the file were told in addition
+-- some such looks at the file were reported in addition
 pub record AddsSome (Are : File → List Look → Type 0) (numbers : Option (ℕ × ℕ)) (told : TailHistory) (after : Option TailHistory) : Type 0 where
   pub looks : List Look
   pub added : Adds told looks after
   pub are : Are (with_numbers numbers told.file) looks
 
--- a tail that tells nothing goes on so
+-- a tail whose looks are not known goes on this way
 abbrev pub LooksOn : (File → List Look → Type 0) → Option (ℕ × ℕ) → Option TailHistory → Option TailHistory → Type 0
 LooksOn Are numbers None after = after ≡ None
 LooksOn Are numbers (Some told) after = AddsSome Are numbers told after
@@ -88,7 +88,7 @@ LooksInTurn numbers told old answer new =
 
 -- ---- of a look
 
--- the length alone, and it is below the place
+-- only the length, and it is below the place
 pub record IsBelow (place : ℕ) (looks : List Look) : Type 0 where
   pub asked : Look
   pub are : looks ≡ asked ∷ []
@@ -105,7 +105,7 @@ pub record HasRead (place : ℕ) (looks : List Look) : Type 0 where
   pub reached : place ≤ asked.sight.length
   pub reads : read.question ≡ ReadAt place count
 
--- the length alone, which is not below the place
+-- only the length, which is not below the place
 pub record HasReached (place : ℕ) (looks : List Look) : Type 0 where
   pub asked : Look
   pub are : looks ≡ asked ∷ []

@@ -9,7 +9,7 @@ use Rattle.harvester.specs.History.{Changed, History, Over, with_epoch, with_sta
 use Rattle.harvester.specs.declared.turn.Turn.{Turn}
 use Rattle.harvester.specs.declared.turn.Turn.TheVariants.{Issued, Passed, NewLife, EpochsOut, ReadFault, NoMemory}
 
--- the event that the turn told of the file of this path
+-- the event that the turn reported of the file of this path
 abbrev pub events_told : List ℕ → ℕ → Turn → List ToldEvent
 events_told path now (Issued parcel) = record { span = parcel.span; path = path; now = now; fate = ShippedAs parcel.payload } ∷ []
 events_told path now (Passed span rule) = record { span = span; path = path; now = now; fate = DroppedBy rule.0 } ∷ []
@@ -29,7 +29,7 @@ IsAnswerFor slot epoch ReadFault = ⊥
 IsAnswerFor slot epoch NoMemory = ⊥
 IsAnswerFor slot epoch turn = Unit {0}
 
--- the history once the key was asked where the length had fallen
+-- the history once the key was asked when the length had fallen
 abbrev pub after_asking : Turn → History → History
 after_asking (NewLife epoch) history = with_epoch history
 after_asking EpochsOut history = with_stage Over history
@@ -46,13 +46,13 @@ IsAskedIn before turn = ⊥
 abbrev pub with_turn : ℕ → Bool → History → History
 with_turn now last history = record history { moments = history.moments ++ now ∷ []; may_end = history.may_end || (last || history.ends) }
 
--- an event was told
+-- an event was reported
 abbrev pub HasOneEvent : Turn → Type 0
 HasOneEvent (Issued parcel) = Unit {0}
 HasOneEvent (Passed span rule) = Unit {0}
 HasOneEvent turn = ⊥
 
--- none was told: the key was asked
+-- none was reported: the key was asked
 abbrev pub IsByKey : Turn → Type 0
 IsByKey (NewLife epoch) = Unit {0}
 IsByKey Turn.Changed = Unit {0}

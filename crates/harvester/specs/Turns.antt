@@ -16,17 +16,17 @@ use Rattle.harvester.specs.History.{Asks, Changed, Ended, History, IsPast, Over,
 use Rattle.harvester.specs.Standing.{EndsLines, stage_behind_end, stage_of}
 use Rattle.harvester.specs.Turned.{HasOneEvent, IsAskedIn, events_told}
 
--- the bytes that it read, the places at which it found that an event may be flushed, and where the file stands then
+-- the bytes that it read, the places at which it found that an event may be flushed, and the state of the file then
 pub record Did : Type 0 where
   pub bytes : List ℕ
   pub licences : List ℕ
   pub stage : Stage
 
--- an event may be flushed at these places, and these were told
+-- an event may be flushed at these places, and these were reported
 abbrev pub with_told : List ℕ → List ToldEvent → History → History
 with_told licences events history = with_present (with_events events (with_licences licences history.present)) history
 
--- at this moment; these events were told, too
+-- at this moment; these events were reported, too
 abbrev pub did_with : ℕ → List ToldEvent → Did → History → History
 did_with now events did history = with_stage did.stage (with_told did.licences events (with_read now did.bytes history))
 
@@ -35,7 +35,7 @@ abbrev pub after_did : ℕ → Turn → Did → History → History
 after_did now (turn.NewLife epoch) did history = with_epoch history
 after_did now answer did history = did_with now (events_told history.path now answer) did history
 
--- the complete lines behind what was told are the first ones of an event that may go on
+-- the complete lines after what was reported are the first ones of an event that may go on
 abbrev pub NoneCloses : History → Type 0
 NoneCloses history = MayGoOn history.rule.multiline (left_to_tell history)
 
@@ -43,7 +43,7 @@ NoneCloses history = MayGoOn history.rule.multiline (left_to_tell history)
 abbrev pub NoneDue : History → ℕ → Type 0
 NoneDue history now = (left_to_tell history ≡ []) ⊎ (¬ (IsPast history now))
 
--- an event is flushed that waits with all lines of what was read, at the file's end or where its timeout has passed
+-- an event is flushed that waits with all lines of what was read, at the file's end or when its timeout has passed
 pub record MayFlush (now : ℕ) (stage : Stage) (licences : List ℕ) (history : History) : Type 0 where
   pub why : (stage ≡ Ended) ⊎ IsPast history now
   pub none_closes : NoneCloses history
@@ -69,7 +69,7 @@ AsksNothing Over = ⊥
 abbrev pub FoundHere : {T : Type 0} → (T → Option TailHistory) → History → Harvester T → Harvester T → Type 0
 FoundHere told before old new = IfSome (told old.tail) (λ earlier. LooksAtEnd (read_to before.present) earlier (told new.tail))
 
--- the file is ended where it was, or where the end may be found and the looks of this turn found it
+-- the file is ended where it was, or if the end may be found and the looks of this turn found it
 abbrev pub EndsHere : {T : Type 0} → (T → Option TailHistory) → Bool → History → Harvester T → Harvester T → Type 0
 EndsHere told may_end before old new = (before.stage ≡ Ended) ⊎ ((may_end ≡ true) × FoundHere told before old new)
 
@@ -88,7 +88,7 @@ last_line_of harvester = harvester.reader.events.last_line.0
 abbrev pub IsWaiting : {T : Type 0} → Harvester T → Type 0
 IsWaiting harvester = IsSome harvester.reader.events.grouper.gathered
 
--- the end was found by an earlier turn, or is now; where the file is ended, all complete lines are told
+-- the end was found by an earlier turn, or is now; if the file is ended, all complete lines are reported
 pub record IsEnd {T : Type 0} (told : T → Option TailHistory) (now : ℕ) (may_end : Bool) (before : History) (did : Did) (after : History) (old new : Harvester T) : Type 0 where
   pub none_read : did.bytes ≡ []
   pub none_asked : AsksNothing did.stage
@@ -97,7 +97,7 @@ pub record IsEnd {T : Type 0} (told : T → Option TailHistory) (now : ℕ) (may
   pub last_line : last_line_of new ≡ after.last_line
   pub which : (before.stage ≡ Ended) ⊎ EndsNow told now may_end before did after old new
 
--- no event was told, and memory was not out
+-- no event was reported, and it was not out of memory
 abbrev pub IsQuiet : Turn → Type 0
 IsQuiet turn.More = Unit {0}
 IsQuiet turn.AtEnd = Unit {0}
@@ -106,8 +106,8 @@ IsQuiet turn.Changed = Unit {0}
 IsQuiet turn.EpochsOut = Unit {0}
 IsQuiet answer = ⊥
 
--- when each answer comes; a fault is told by the tail's count, and out of memory needs no cause. Which key the file had the
--- looks tell: where it is read or asked on, has another key, or its last epoch is over
+-- when each answer comes; a fault is shown by the tail's count, and out of memory needs no cause. Which key the file had the
+-- looks show: if it is read or asked on, has another key, or its last epoch is over
 abbrev pub IsCaused : {T : Type 0} → (T → Option TailHistory) → ℕ → Bool → History → Did → History → Harvester T → Turn → Harvester T → Type 0
 IsCaused told now may_end before did after old (turn.Issued parcel) new = MayTurn did.stage
 IsCaused told now may_end before did after old (turn.Passed span rule) new = MayTurn did.stage
@@ -137,7 +137,7 @@ answer_of (Ok answer) = answer
 answer_of (Err error.ReadFault) = turn.ReadFault
 answer_of (Err error.NoMemory) = turn.NoMemory
 
--- the event that was told, where one was closed
+-- the event that was reported, if one was closed
 abbrev pub events_of : List ℕ → ℕ → Result (Option Turn) NoMemory → List ToldEvent
 events_of path now (Ok (Some answer)) = events_told path now answer
 events_of path now (Ok None) = []
@@ -161,12 +161,12 @@ pub record IsSettled {T : Type 0} (now : ℕ) (ended : Bool) (history : History)
   pub all_told : ended ≡ true → left_to_tell history ≡ []
   pub last_line : last_line_of new ≡ history.last_line
 
--- once more was read: what was told, where an event may be flushed, and where the file stands then
+-- once more was read: what was reported, where an event may be flushed, and the state of the file then
 pub record Settled {T : Type 0} (numbers : T → Option (ℕ × ℕ)) (told : T → Option TailHistory) (now : ℕ) (ended : Bool) (history : History) (result : Result (Option Turn) NoMemory) (new : Harvester T) : Type 0 where
   pub licences : List ℕ
   pub stage : Stage
   pub goes_on : MayTurn stage
-  -- the file is ended only where it may be, and then where no event is closed
+  -- the file is ended only if it may be, and then if no event is closed
   pub ends : stage ≡ Ended → ended ≡ true
   pub at_none : result ≡ Ok None → stage ≡ stage_of (stage_behind_end ended)
   pub has_told : HasTold numbers told (did_with now (events_of history.path now result) (record { bytes = []; licences = licences; stage = stage }) history) new

@@ -19,7 +19,7 @@ use std::alloc::Global;
 use wire_base::{Epoch, Text};
 
 impl<T: Tail> Harvester<T> {
-    /// Asks the file for its key, where its length was below what was read: a new life begins where it is the one with
+    /// Asks the file for its key, when its length was below what was read: a new life begins if it is the one with
     /// which the file was opened.
     pub(crate) fn ask_again(&mut self, alloc: Global) -> Result<Turn, TurnError>
         requires asks { self.old.reader.stage ≡ Stage.Asking }

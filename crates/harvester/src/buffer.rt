@@ -11,7 +11,7 @@ use wire_base::NoMemory;
 /// The most bytes of one read.
 pub(crate) const READ_SIZE: usize = 16_384;
 
-/// Where a read puts its bytes: one byte, and more where a file has more.
+/// Where a read puts its bytes: one byte, and more if a file has more.
 #[derive(Drop)]
 pub(crate) struct Buffer {
     alloc: Global,
@@ -84,7 +84,7 @@ impl Buffer {
         }
     }
 
-    /// The first so many bytes.
+    /// This many of the first bytes.
     pub(crate) fn front(&self, count: usize) -> &[u8]
         requires { count ≤ length self.now }
         ensures { result.now ≡ take count self.now }

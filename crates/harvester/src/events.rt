@@ -17,13 +17,13 @@ use std::alloc::Global;
 use wire_base::{Moment, NoMemory};
 
 /// Cuts what was read of one life into lines, and gathers these into events. An event that is closed waits here until it
-/// is told.
+/// is reported.
 #[derive(Drop)]
 pub(crate) struct Events {
     pub(crate) lines: LineRule,
     pub(crate) cutter: Cutter,
     pub(crate) grouper: Grouper,
-    /// A line that is cut and, since memory was out, not gathered yet.
+    /// A line that is cut and, out of memory, not gathered yet.
     pub(crate) line: Option<Line>,
     pub(crate) closed: Option<Group>,
     /// When the last line was read that was gathered.
@@ -70,7 +70,7 @@ impl Events {
         self.closed = None;
     }
 
-    /// Takes the bytes that stand behind all that was fed before.
+    /// Takes the bytes that follow all that was fed before.
     pub(crate) fn feed(&mut self, piece: &[u8]) -> Result<(), NoMemory>
         requires { IsPlace (fed_to self.old.cutter + length piece.now) }
         ensures fed { OnOk result
@@ -124,7 +124,7 @@ impl Events {
         self.closed = self.grouper.flush();
     }
 
-    /// The closed event was told.
+    /// The closed event was reported.
     pub(crate) fn pass(&mut self)
         ensures passed { (rules : Rules) (start : ℕ) (fed licences : List ℕ) (of : Gathered) →
             IsGathered rules start fed licences of self.old →
@@ -182,7 +182,7 @@ impl Events {
         }
     }
 
-    /// Gathers one more line, and keeps it where memory is out; whether it closes an event.
+    /// Gathers one more line, and keeps it when out of memory; whether it closes an event.
     fn gather(&mut self, alloc: Global, line: Line, now: Moment) -> Result<bool, NoMemory>
         requires no_line { self.old.line ≡ None }
         requires none_closed { self.old.closed ≡ None }

@@ -38,7 +38,7 @@ pub(crate) struct FateRules {
 }
 
 impl FateRules {
-    /// A pattern that is too large when it is compiled is told as out of memory.
+    /// A pattern that is too large when it is compiled is reported as out of memory.
     pub(crate) fn new(
         alloc: Global,
         rule: &InputRule,

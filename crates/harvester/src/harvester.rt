@@ -18,7 +18,7 @@ use outside::Tail;
 use std::alloc::Global;
 use wire_base::{Begin, Epoch, Moment, NoMemory, Slot, Text};
 
-/// An open file that is told as events. It holds the head of an unended line and an event that waits for lines, each of at
+/// An open file that is reported as events. It holds the head of an unended line and an event that waits for lines, each of at
 /// most `message_max_bytes`, the room of at most two reads of 16,384 bytes, and the rules, compiled once.
 #[derive(Drop)]
 pub struct Harvester<T> {
@@ -31,7 +31,7 @@ pub struct Harvester<T> {
 
 impl<T: Tail> Harvester<T> {
     /// Follows the file on from its begin's place. `Err` means out of memory, and gives the tail back; a pattern that is
-    /// too large when it is compiled is told as that, too.
+    /// too large when it is compiled is reported as that, too.
     pub fn open(
         alloc: Global,
         rule: &InputRule,
@@ -87,7 +87,7 @@ impl<T: Tail> Harvester<T> {
         self.reader.begin.slot
     }
 
-    /// The epoch, and the end of the last span that was told in it, or the place from which it is read.
+    /// The epoch, and the end of the last span that was reported in it, or the place from which it is read.
     pub fn told(&self) -> (Epoch, u64)
         ensures epoch { (history : History) → HasTold T.numbers T.told history self.now →
             result.0.0 ≡ history.present.epoch }
@@ -105,7 +105,7 @@ impl<T: Tail> Harvester<T> {
         self.reader.position()
     }
 
-    /// Events that are told later have this path. Takes no memory.
+    /// Events that are reported later have this path. Takes no memory.
     pub fn rename(&mut self, path: Text)
         ensures renamed { (history : History) → HasTold T.numbers T.told history self.old →
             HasTold T.numbers T.told (with_path path history) self.new }
@@ -144,7 +144,7 @@ impl<T: Tail> Harvester<T> {
         self.rests = false;
     }
 
-    /// Since when the file gave no line, where the last turn found its end, no event waits and nothing was heard of it
+    /// Since when the file gave no line, if the last turn found its end, no event waits and nothing was heard of it
     /// since: the moment of the last turn that read a complete line, or that of the opening.
     pub fn idle_since(&self) -> Option<Moment>
         ensures none { IsNone result ↔ (IsWaiting self.now ⊎ (self.now.rests ≡ false)) }

@@ -26,7 +26,7 @@ pub(crate) enum Found {
 }
 
 impl<T: Tail> Harvester<T> {
-    /// Asks the length, and reads where it is not below what was read.
+    /// Asks the length, and reads if it is not below what was read.
     pub(crate) fn look(&mut self, now: Moment) -> Result<Found, TurnError>
         requires all_fed { self.old.reader.filled ≡ 0 }
         requires reads { self.old.reader.stage ≡ Stage.Reading }

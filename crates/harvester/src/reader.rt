@@ -26,7 +26,7 @@ pub(crate) struct Reader {
     pub(crate) begin: Begin,
     pub(crate) input: Text,
     pub(crate) identity: IdentityRule,
-    /// The path that was given last, where it is not that of the opening.
+    /// The path that was given last, if it is not that of the opening.
     pub(crate) renamed: Option<Text>,
     pub(crate) epoch: Epoch,
     pub(crate) told_to: u64,
@@ -175,7 +175,7 @@ impl Reader {
 }
 
 impl Reader {
-    /// Reads from its position, where nothing that was read waits to be fed.
+    /// Reads from its position, if nothing that was read waits to be fed.
     pub(crate) fn read<T: Tail>(&mut self, tail: &mut T, now: Moment) -> Result<usize, Failed>
         requires all_fed { self.old.filled ≡ 0 }
         requires reads { self.old.stage ≡ Stage.Reading }
@@ -215,7 +215,7 @@ impl Reader {
         Ok(count)
     }
 
-    /// Makes room for a whole read, where the file has this length and there is something to read. Nothing that was
+    /// Makes room for a whole read, if the file has this length and there is something to read. Nothing that was
     /// read waits to be fed.
     pub(crate) fn make_room(&mut self, length: u64) -> Result<(), NoMemory>
         requires { self.old.filled ≡ 0 }
@@ -231,7 +231,7 @@ impl Reader {
         Ok(())
     }
 
-    /// Gives the room back, where nothing that was read waits to be fed. Takes no memory.
+    /// Gives the room back, if nothing that was read waits to be fed. Takes no memory.
     pub(crate) fn shrink(&mut self)
         requires { self.old.filled ≡ 0 }
         ensures stands { (history : History) → StandsFor history self.old →
@@ -241,7 +241,7 @@ impl Reader {
         self.buffer.shrink();
     }
 
-    /// Closes the event that waits as it is, where the file's end was found or the event's timeout has passed; whether
+    /// Closes the event that waits as it is, if the file's end was found or the event's timeout has passed; whether
     /// there is one then. Takes no memory.
     pub(crate) fn close(&mut self, ended: bool, now: Moment) -> bool
         requires none_closed { self.old.events.closed ≡ None }
@@ -258,7 +258,7 @@ impl Reader {
         self.events.closed.is_some()
     }
 
-    /// The closed event was told.
+    /// The closed event was reported.
     pub(crate) fn pass(&mut self)
         requires closed { IsSome self.old.events.closed }
         ensures told { (history : History) (event : ToldEvent) → StandsFor history self.old →
@@ -281,7 +281,7 @@ impl Reader {
         self.events.pass();
     }
 
-    /// Where the file stands from now on.
+    /// The state of the file from now on.
     pub(crate) fn stand(&mut self, stage: Stage)
         ensures stands { (history : History) (stood : StandsFor history self.old) →
             IsGatheredAt (stage_of stage) history stood.of →
@@ -314,7 +314,7 @@ impl Reader {
         self.stage = Stage::Reading;
     }
 
-    /// Events that are told later have this path. Takes no memory.
+    /// Events that are reported later have this path. Takes no memory.
     pub(crate) fn rename(&mut self, path: Text)
         ensures stands { (history : History) → StandsFor history self.old →
             StandsFor (with_path path history) self.new }
@@ -346,7 +346,7 @@ impl Reader {
         self.stage
     }
 
-    /// Whether an event is closed and not told yet.
+    /// Whether an event is closed and not reported yet.
     pub(crate) fn has_closed(&self) -> bool
         ensures { IsTrue result ↔ IsSome self.now.events.closed }
     {

@@ -16,7 +16,7 @@ use std::alloc::Global;
 use wire_base::{Moment, NoMemory, Parcel, Span};
 
 impl<T: Tail> Harvester<T> {
-    /// Tells the closed event.
+    /// Reports the closed event.
     pub(crate) fn tell(&mut self, alloc: Global, now: Moment) -> Result<Turn, NoMemory>
         requires closed { IsSome self.old.reader.events.closed }
         requires moment { IsMoment now }

@@ -18,8 +18,8 @@ pub enum Turn {
     Changed,
     /// The length was below what was read in the last epoch, and the file has the same key.
     EpochsOut,
-    /// The tail's count of faults rose. Nothing was told, and no byte is skipped.
+    /// The tail's count of faults rose. Nothing was reported, and no byte is skipped.
     ReadFault,
-    /// Nothing was told, and no byte is skipped.
+    /// Nothing was reported, and no byte is skipped.
     NoMemory,
 }

@@ -3,7 +3,7 @@ use outside::Failed;
 use std::alloc::AllocError;
 use wire_base::NoMemory;
 
-/// Why a turn told nothing.
+/// Why a turn reported nothing.
 #[derive(Clone, Copy, Debug, PartialEq, Eq)]
 pub(crate) enum TurnError {
     ReadFault,

@@ -22,9 +22,9 @@ use std::alloc::Global;
 use wire_base::{Moment, NoMemory};
 
 impl<T: Tail> Harvester<T> {
-    /// Tells the next event, or looks for more where no event is closed by what was read: asks the length, and reads at
-    /// most 16,384 bytes. Where the length is below what was read, it asks the file for its key, and again in later turns
-    /// while that meets a fault. With `last` the file's end may be found: there the event that waits is closed as it is,
+    /// Reports the next event, or looks for more if no event is closed by what was read: asks the length, and reads at
+    /// most 16,384 bytes. If the length is below what was read, it asks the file for its key, and again in later turns
+    /// while that hits a fault. With `last` the file's end may be found: there the event that waits is closed as it is,
     /// and the file is read no further.
     pub fn turn(&mut self, alloc: Global, now: Moment, last: bool) -> Turn
         requires goes_on { ¬ (IsChanged self.old) }
@@ -50,7 +50,7 @@ impl<T: Tail> Harvester<T> {
         turn
     }
 
-    /// One turn, by where the file stands.
+    /// One turn, by the state of the file.
     fn step(&mut self, alloc: Global, now: Moment, last: bool) -> Result<Turn, TurnError>
         requires goes_on { ¬ (IsChanged self.old) }
         requires moment { IsMoment now }
@@ -85,7 +85,7 @@ impl<T: Tail> Harvester<T> {
         }
     }
 
-    /// Tells the event that is closed by what was read, or looks for more.
+    /// Reports the event that is closed by what was read, or looks for more.
     fn go_on(&mut self, alloc: Global, now: Moment, ended: bool) -> Result<Turn, TurnError>
         requires reads { self.old.reader.stage ≡ Stage.Reading }
         requires moment { IsMoment now }
@@ -124,7 +124,7 @@ impl<T: Tail> Harvester<T> {
         }
     }
 
-    /// Tells the event that is closed by what was read, by its timeout, or where the file's end was found.
+    /// Reports the event that is closed by what was read, by its timeout, or if the file's end was found.
     fn settle(&mut self, alloc: Global, now: Moment, ended: bool) -> Result<Option<Turn>, NoMemory>
         requires reads { self.old.reader.stage ≡ Stage.Reading }
         requires moment { IsMoment now }

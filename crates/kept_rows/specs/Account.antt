@@ -1,5 +1,5 @@
 -- The account of a run (this project's profile of Filebeat's registry): for each slot how its file was followed, and for
--- each epoch of it what was read and what was told, with the place at which a peer acknowledged each event that was
+-- each epoch of it what was read and what was reported, with the place at which a peer acknowledged each event that was
 -- shipped. It is one account for the whole run: of all rows, of all moments and of all talks.
 use Rattle.std.specs.Prelude.{ℕ, ◌==◌, List, [], ◌∷◌, map, flat_map, Option, Some, None, if◌then◌else◌}
 use Rattle.std.specs.List.{filter_map}
@@ -20,7 +20,7 @@ pub record AccountedEvent : Type 0 where
   pub event : ToldEvent
   -- the number, in its epoch, of the reading that read its last byte
   pub reading : ℕ
-  -- where it was acknowledged, once it was
+  -- the place at which it was acknowledged, once it was
   pub place : Option Place
 
 -- a segment of the looks of the tail that was opened there
@@ -30,7 +30,7 @@ pub record Reading : Type 0 where
 
 pub record EpochAccount : Type 0 where
   pub epoch : ℕ
-  -- the place from which its events are told
+  -- the place from which its events are reported
   pub start : ℕ
   -- the number of the life of which they are
   pub life : ℕ
@@ -39,7 +39,7 @@ pub record EpochAccount : Type 0 where
   pub licences : List ℕ
   pub told : List AccountedEvent
 
--- a tail that was opened to follow the file from this place on; what it told up to where its file was found to have another
+-- a tail that was opened to follow the file from this place on; what it reported up to where its file was found to have another
 -- key, and from there on
 pub record FollowedTail : Type 0 where
   pub opening : ℕ
@@ -61,13 +61,13 @@ pub record Following : Type 0 where
 
 pub record SlotAccount : Type 0 where
   pub following : Following
-  -- the number of its file, where one was opened
+  -- the number of its file, if one was opened
   pub number : ℕ
   -- the greatest moment of change that was noted
   pub changed : ℕ
   pub epochs : List EpochAccount
 
--- ---- what stands in it
+-- ---- what is in it
 
 abbrev pub slot_of : SlotAccount → ℕ
 slot_of account = account.following.slot

@@ -1,4 +1,4 @@
--- Where payloads stand among what the talks of a run acknowledge (Lumberjack v2; this project's profile), and talks that
+-- Where payloads are among what the talks of a run acknowledge (Lumberjack v2; this project's profile), and talks that
 -- grow.
 use Rattle.std.specs.Prelude.{◌≡◌, ℕ, List, [], ◌∷◌, ◌++◌, map, slice_get, Option, Some, None}
 use Rattle.lumber_frame.specs.Acknowledged.{Acknowledges}
@@ -17,11 +17,11 @@ abbrev pub open_talks : Option Talk → List (Option (List Piece))
 open_talks None = []
 open_talks (Some talk) = Some talk.pieces ∷ []
 
--- the talks of a wire's connections in this run, in order; none where it was refused
+-- the talks of a wire's connections in this run, in order; none if it was refused
 abbrev pub talks_of : WireTold → List (Option (List Piece))
 talks_of wire = map talk_of wire.outcomes ++ open_talks wire.open_talk
 
--- the payload stands at the place
+-- the payload is at the place
 pub record IsAcknowledgedAt (wires : List WireTold) (payload : List ℕ) (place : Place) : Type 0 where
   pub wire : WireTold
   pub wire_is : slice_get wires place.wire ≡ Some wire

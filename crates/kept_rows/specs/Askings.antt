@@ -1,6 +1,6 @@
 -- The askings of a scan (this project's profile): each is for an entry of its listings that a glob of its input covers. They
--- stand in byte order of their paths, and of one path by the inputs' places in the settings. An input that reads its files to
--- know them has an opening for each, and no other has one; these openings stand right behind the scan's listings, one behind
+-- are in byte order of their paths, and of one path by the inputs' places in the settings. An input that reads its files to
+-- know them has an opening for each, and no other has one; these openings come right after the scan's listings, one after
 -- the other, and each tail is closed before the next file is opened.
 use Rattle.std.specs.Prelude.{◌≡◌, ◌⊎◌, ℕ, suc, ◌<◌, List, [], ◌∷◌, slice_get, Option, Some, None}
 use Rattle.std.specs.List.{AllByRecursion}
@@ -17,7 +17,7 @@ use Rattle.kept_rows.specs.Scans.{IsCovered, IsNoFingerprint, ShowsEntry}
 
 -- ---- what each is for
 
--- it has an opening where the input reads the file, and there alone
+-- it has an opening if the input reads the file, and only then
 abbrev pub HasItsOpening : IdentityRule → Option ℕ → Type 0
 HasItsOpening rule None = IsNoFingerprint rule
 HasItsOpening rule (Some opening) = ¬ (IsNoFingerprint rule)
@@ -33,7 +33,7 @@ pub record IsForAnEntry (run : Run) (scan : Scan) (asking : Asking) : Type 0 whe
 
 -- ---- in which order
 
--- one input asks twice for one path only where it opens no file: two listings may show it with other native numbers
+-- one input asks twice for one path only if it opens no file: two listings may show it with other native numbers
 abbrev pub ComesBehind : Asking → Asking → Type 0
 ComesBehind one later =
     (compare one.path later.path ≡ Less)
@@ -43,7 +43,7 @@ abbrev pub AreInOrder : List Asking → Type 0
 AreInOrder [] = Unit {0}
 AreInOrder (one ∷ others) = AllByRecursion (ComesBehind one) others × AreInOrder others
 
--- ---- where their openings stand
+-- ---- where their openings are
 
 -- the file was opened there by the path, and its tail was closed before anything else was done
 pub record OpensAndCloses (events : List Event) (path : List ℕ) (opening : ℕ) : Type 0 where
@@ -68,7 +68,7 @@ abbrev pub AreMadeFrom : List Event → ℕ → List Asking → Type 0
 AreMadeFrom events place [] = Unit {0}
 AreMadeFrom events place (asking ∷ askings) = (next : ℕ) × IsMadeAt events asking.path asking.opening place next × AreMadeFrom events next askings
 
--- the place right behind the last of these, or this one where there is none
+-- the place right after the last of these, or this one if there is none
 abbrev pub behind_all : ℕ → List ℕ → ℕ
 behind_all place [] = place
 behind_all place (listing ∷ listings) = behind_all (suc listing) listings

@@ -1,7 +1,7 @@
 -- Notes that are backed by an account (this project's profile): a Begin names the key, the epoch and the place with which
--- its slot was begun; an Announce names an epoch that the slot had, and a Forget the last one and its last told place; a Settle is of a told event that its rule
--- drops, or whose payload is acknowledged at the place that the account gives it; no moment is above the greatest that was
--- noted of the slot. A Rename says nothing of offsets.
+-- its slot was begun; an Announce names an epoch that the slot had, and a Forget the last one and the end of what was reported
+-- of it; a Settle is of a reported event that its rule drops, or whose payload is acknowledged at the place that the account
+-- gives it; no moment is above the greatest that was noted of the slot. A Rename says nothing of offsets.
 use Rattle.std.specs.Prelude.{◌≡◌, ℕ, ◌<◌, ◌≤◌, List, [], ◌∷◌, ◌++◌, Contains, None, Some, IsSome}
 use Rattle.std.specs.List.{AllByRecursion}
 use Rattle.ship_core.specs.CoveredEnd.{Adjoin}
@@ -33,7 +33,7 @@ pub record BacksMoment (account : List SlotAccount) (slot moment : ℕ) : Type 0
   pub slot_is : slot_at slot account ≡ Some one
   pub moment_within : moment ≤ one.changed
 
--- the event of the span is told in the epoch, is settled, and for this cause
+-- the event of the span is reported in the epoch, is settled, and for this cause
 pub record BacksSettle (account : List SlotAccount) (wires : List WireTold) (slot epoch : ℕ) (span : Extent) (cause : Cause) : Type 0 where
   pub told_in : EpochAccount
   pub epoch_is : epoch_of account slot epoch ≡ Some told_in
@@ -43,7 +43,7 @@ pub record BacksSettle (account : List SlotAccount) (wires : List WireTold) (slo
   pub cause_is : cause_of_fate one.event.fate ≡ cause
   pub settled : IsSettled wires one
 
--- the epoch is the slot's last, and the place is the end of what was told of it
+-- the epoch is the slot's last, and the place is the end of what was reported of it
 pub record BacksForget (account : List SlotAccount) (slot epoch end : ℕ) : Type 0 where
   pub one : SlotAccount
   pub slot_is : slot_at slot account ≡ Some one
@@ -74,7 +74,7 @@ abbrev pub OnlyTheNewestHaveRows : List SlotAccount → List Note → Type 0
 OnlyTheNewestHaveRows account notes = (one newer : SlotAccount) → Contains account one → Contains account newer →
     key_of one ≡ key_of newer → slot_of one < slot_of newer → row_over (slot_of one) notes ≡ None
 
--- in each epoch the told spans adjoin from its start on, and the epochs are numbered from the slot's first
+-- in each epoch the reported spans adjoin from its start on, and the epochs are numbered from the slot's first
 pub record IsInOneRow (one : SlotAccount) : Type 0 where
   pub numbered : AreNumbered one
   pub adjoin : AllByRecursion (λ epoch. Adjoin epoch.start (spans_of epoch.told)) one.epochs

@@ -1,6 +1,6 @@
 -- A drained folder (this project's profile): the first scan is whole, and each entry that a glob of an input covers was
--- skipped for its named reason, or its file was found with another key in a new life, or its key has a row that stands
--- at the end of the last complete line before the file's end. Only that it stands there may suppose something, of its slot.
+-- skipped for its named reason, or its file was found with another key in a new life, or its key has a row that is
+-- at the end of the last complete line before the file's end. Only that it is there may suppose something, of its slot.
 use Rattle.std.specs.Prelude.{◌≡◌, ◌≢◌, ◌⊎◌, ℕ, max, List, [], ◌∷◌, ◌++◌, map, Contains, slice_get, Option, Some, None}
 use Rattle.std.specs.List.{AllByRecursion}
 use Rattle.std.specs.declared.cmp.Ordering.TheVariants.{Less}
@@ -40,14 +40,14 @@ abbrev pub IsOfNoOther : Run → ℕ → ℕ → Type 0
 IsOfNoOther run input opening =
     AllByRecursion (λ scan. AllByRecursion (λ asking. asking.opening ≡ Some opening → asking.input ≡ input) scan.askings) run.scans
 
--- nothing was there by the path as it was to be opened, behind the listings of the scan
+-- nothing was there by the path as it was to be opened, after the listings of the scan
 pub record IsGone (run : Run) (scan : Scan) (path : List ℕ) (input : ℕ) : Type 0 where
   pub opening : ℕ
   pub since : IsBefore opening scan
   pub of_input : IsOfNoOther run input opening
   pub was : WasGone run.trace opening path
 
--- a tail was opened by the path, behind the listings of the scan, and its asking gave this key, or none
+-- a tail was opened by the path, after the listings of the scan, and its asking gave this key, or none
 pub record WasOpenedWith (run : Run) (rule : InputRule) (scan : Scan) (input : ℕ) (path : List ℕ) (key : Option (List ℕ)) : Type 0 where
   pub opening : ℕ
   pub since : IsBefore opening scan
@@ -72,7 +72,7 @@ pub record IsMoved (run : Run) (rule : InputRule) (scan : Scan) (shown : Shown) 
   pub opened : WasOpenedWith run rule scan input shown.entry.path (Some other)
   pub other_key : other ≢ key
 
--- the asking of the scan told no key
+-- the asking of the scan gave no key
 pub record GaveNoKey (run : Run) (rule : InputRule) (scan : Scan) (shown : Shown) (input : ℕ) : Type 0 where
   pub asking : Asking
   pub asks : AsksFor run scan shown input asking
@@ -86,7 +86,7 @@ pub record IsSmall (run : Run) (rule : InputRule) (scan : Scan) (shown : Shown) 
 
 -- ---- or else
 
--- a new life of its file had another key: behind the looks of a tail that followed it the length fell, and an asking told
+-- a new life of its file had another key: after the looks of a tail that followed it the length fell, and an asking gave
 pub record IsChanged (run : Run) (rule : InputRule) (account : List SlotAccount) (scan : Scan) (shown : Shown) (input : ℕ) : Type 0 where
   pub key : List ℕ
   pub number : ℕ
@@ -106,7 +106,7 @@ pub record IsChanged (run : Run) (rule : InputRule) (account : List SlotAccount)
   pub told : IsTail run.trace tail.opening path one.number (tail.looks ++ fall ∷ later)
   pub other_key : HasOtherKey rule key path file later
 
--- its file's end was found, and the row stands at the end of the last complete line before it, where this is supposed of its slot
+-- its file's end was found, and the row is at the end of the last complete line before it, if this is supposed of its slot
 pub record IsReadToItsEnd (Supposed : Following → Type 0) (run : Run) (rule : InputRule) (account : List SlotAccount) (row : Row) : Type 0 where
   pub slot : ℕ
   pub one : SlotAccount
@@ -172,7 +172,7 @@ IsDrainedBySlots run account rows = IsDrainedWhere SeesTruncationsOf run account
 
 -- ---- of all slots
 
--- where the premises hold of all slots, what is said slot by slot is said of the run as a whole
+-- if the premises hold of all slots, what is said slot by slot is said of the run as a whole
 pub record SlotsGiveTheWhole (run : Run) (account : List SlotAccount) (rows : List Row) : Type 0 where
   pub is_account : Premises run (map (λ one. one.following) account) → AreFollowed run (map (λ one. one.following) account) →
       AreSlotAccounts run account → IsAccount run account

@@ -1,7 +1,7 @@
--- The epochs of a slot (this project's profile): an epoch rises by one where a look at the length is below the position
--- and the file still has its key, and where the file is opened again though its listed size is below the place from which it
+-- The epochs of a slot (this project's profile): an epoch rises by one when a look at the length is below the position
+-- and the file still has its key, and when the file is opened again though its listed size is below the place from which it
 -- would go on. It rises at nothing else. Its life is the one of which its looks last read bytes, or that was there at its
--- first look where they read none.
+-- first look if they read none.
 use Rattle.std.specs.Prelude.{◌≡◌, ◌≢◌, ◌⊎◌, ℕ, suc, ◌+◌, ◌<◌, ◌≤◌, nat_lt, List, [], ◌∷◌, ◌++◌, flat_map, Option, Some, None}
 use Rattle.std.specs.List.{AllByRecursion, filter}
 use Rattle.file_looks.specs.Reading.{last_life}
@@ -19,7 +19,7 @@ abbrev pub AreNumberedFrom : ℕ → List EpochAccount → Type 0
 AreNumberedFrom before [] = Unit {0}
 AreNumberedFrom before (epoch ∷ later) = (epoch.epoch ≡ before + 1) × (epoch.start ≡ 0) × AreNumberedFrom (before + 1) later
 
--- the first is that with which the slot was begun, and each later one is told from the file's first byte on
+-- the first is that with which the slot was begun, and each later one is reported from the file's first byte on
 pub record AreNumbered (one : SlotAccount) : Type 0 where
   pub first : EpochAccount
   pub later : List EpochAccount
@@ -64,16 +64,16 @@ EachRises run key [] = Unit {0}
 EachRises run key (last ∷ []) = Unit {0}
 EachRises run key (before ∷ next ∷ epochs) = Rises run key before next × EachRises run key (next ∷ epochs)
 
--- the events that were told by the readings before the one of this number
+-- the events that were reported by the readings before the one of this number
 abbrev pub told_before : ℕ → List AccountedEvent → List AccountedEvent
 told_before number told = filter (λ one. nat_lt one.reading number) told
 
--- readings tell in their order
+-- readings report in their order
 abbrev pub AreReadInOrder : ℕ → List AccountedEvent → Type 0
 AreReadInOrder least [] = Unit {0}
 AreReadInOrder least (one ∷ told) = (least ≤ one.reading) × AreReadInOrder one.reading told
 
--- within an epoch a tail goes on from where the readings before it told, which is not above the size with which the file was
+-- within an epoch a tail goes on from where the readings before it reported, which is not above the size with which the file was
 -- listed last; a reading that begins with a fall is the first of its epoch
 pub record GoesOnFrom (run : Run) (key : List ℕ) (epoch : EpochAccount) (number : ℕ) (reading : Reading) : Type 0 where
   pub no_fall : reading.segment.fall ≡ None
@@ -94,7 +94,7 @@ GoOnWithin run key epoch (first ∷ others) =
 abbrev pub first_sight_of : List Reading → Option Sight
 first_sight_of readings = first_of (flat_map (λ reading. looks_in reading.segment) readings)
 
--- the life that is last read where this one was there at the first look
+-- the life that is last read if this one was there at the first look
 abbrev pub life_read : ℕ → List Reading → ℕ
 life_read first readings = last_life first (flat_map (λ reading. steps_in reading.segment) readings)
 

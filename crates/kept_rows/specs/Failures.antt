@@ -23,7 +23,7 @@ pub record IsUnanswered (talk : Talk) : Type 0 where
   pub fewer : length acknowledged < length (flat_map (λ window. window) windows)
   pub idled : talk.idled ≡ true
 
--- two of the first moments are the timeout apart, and the failures behind it have those that follow
+-- two of the first moments are the timeout apart, and the failures after it have those that follow
 pub record TimedOut (timeout : ℕ) (Later : List ℕ → Type 0) (talk : Talk) (moments : List ℕ) : Type 0 where
   pub unanswered : IsUnanswered talk
   pub own : List ℕ
@@ -50,7 +50,7 @@ abbrev pub OnlyTheFirstAcknowledges : List Outcome → Type 0
 OnlyTheFirstAcknowledges [] = Unit {0}
 OnlyTheFirstAcknowledges (first ∷ others) = AllByRecursion AcknowledgesNothing others
 
--- the last so many outcomes of a worker are failures, by moments of this run that stand behind those of its earlier failures
+-- this many of the last outcomes of a worker are failures, by moments of this run that come after those of its earlier failures
 pub record HasLastFailures (timeout attempts : ℕ) (moments : List ℕ) (outcomes : List Outcome) : Type 0 where
   pub earlier : List Outcome
   pub last : List Outcome

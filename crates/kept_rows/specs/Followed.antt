@@ -1,5 +1,5 @@
 -- How the file of a slot is followed (Filebeat reference, filestream input, file identity; this project's profile): with
--- which epoch and place it is begun, which tails read it, and where its key was asked again.
+-- which epoch and place it is begun, which tails read it, and when its key was asked again.
 use Rattle.std.specs.Prelude.{◌≡◌, ◌⊎◌, ℕ, zero, suc, ◌+◌, ◌<◌, ◌≤◌, nat_le, List, [], ◌∷◌, ◌++◌, map, flat_map, codes, Contains, slice_get, Option, Some, None, IsSomeAnd, if◌then◌else◌}
 use Rattle.std.specs.List.{AllByRecursion, filter_map}
 use Rattle.event_tree.specs.declared.input_rule.InputRule.{InputRule}
@@ -22,7 +22,7 @@ use Rattle.kept_rows.specs.Trace.{IsTail, Trace, looks_of}
 
 -- ---- how it is begun
 
--- an epoch, and the place from which on it is told
+-- an epoch, and the place from which on it is reported
 pub record Start : Type 0 where
   pub epoch : ℕ
   pub base : ℕ
@@ -73,7 +73,7 @@ pub record IsBegun (run : Run) (following : Following) : Type 0 where
 
 -- ---- the tails
 
--- behind the looks of the tail the length was below the place up to which was read, and no asking gave the key any more
+-- after the looks of the tail the length was below the place up to which was read, and no asking gave the key any more
 pub record LostItsKey (rule : InputRule) (key path : List ℕ) (file : File) (tail : FollowedTail) : Type 0 where
   pub fall : Look
   pub later : List Look
@@ -85,7 +85,7 @@ pub record LostItsKey (rule : InputRule) (key path : List ℕ) (file : File) (ta
   pub below : fall.sight.length < read_to last
   pub other_key : ¬ (SomeAskingGives rule key path file later)
 
--- a tail that follows the key's file: as it was opened the file gave the key, and so it did where a new life began
+-- a tail that follows the key's file: as it was opened the file gave the key, and it did so when a new life began
 pub record IsFollowedTail (run : Run) (rule : InputRule) (key : List ℕ) (tail : FollowedTail) : Type 0 where
   pub path : List ℕ
   pub number : ℕ
@@ -97,7 +97,7 @@ pub record IsFollowedTail (run : Run) (rule : InputRule) (key : List ℕ) (tail 
   pub reads_on : AllByRecursion (λ segment. ReadOn (steps_in segment)) (segments_of tail.place tail.looks)
   pub end : (tail.beyond ≡ []) ⊎ LostItsKey rule key path file tail
 
--- the tail was closed, behind its own opening, before the next one was opened
+-- the tail was closed, after its own opening, before the next one was opened
 pub record IsClosedBefore (trace : Trace) (tail next : FollowedTail) : Type 0 where
   pub place : ℕ
   pub looks : List Look
@@ -131,7 +131,7 @@ abbrev pub AreRising : ℕ → List Following → Type 0
 AreRising least [] = Unit {0}
 AreRising least (one ∷ others) = (least ≤ one.slot) × AreRising (one.slot + 1) others
 
--- where both have one key, the earlier one was gone before the later one was known
+-- if both have one key, the earlier one was gone before the later one was known
 abbrev pub IsGoneBefore : Following → Following → Type 0
 IsGoneBefore earlier later = earlier.key ≡ later.key → IsSomeAnd earlier.gone_after (λ last. last < later.known_from)
 
@@ -163,7 +163,7 @@ pub record WasHiddenByWhole (run : Run) (key : List ℕ) (number : ℕ) : Type 0
 abbrev pub HadNoRow : Run → List Following → Following → Type 0
 HadNoRow run followings one = (find one.key run.opening ≡ None) ⊎ ((last : ℕ) × HasWent followings one last)
 
--- from this scan on the key was not known: from the first one, from the one behind that by which an earlier slot went, or from
+-- from this scan on the key was not known: from the first one, from the one after that by which an earlier slot went, or from
 -- a whole scan that did not show it
 abbrev pub IsUnknownFrom : Run → List Following → Following → ℕ → Type 0
 IsUnknownFrom run followings one since =

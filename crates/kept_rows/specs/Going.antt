@@ -1,5 +1,5 @@
 -- What may happen next (this project's profile): the folder's list goes on, tails are closed and others opened, further
--- scans are made, talks grow, links are finished, and the account tells more. No scan is under way.
+-- scans are made, talks grow, links are finished, and the account reports more. No scan is under way.
 use Rattle.std.specs.Prelude.{◌≡◌, ◌≢◌, ℕ, ◌≤◌, List, [], ◌∷◌, ◌++◌, length, Option, Some, None, IfSome}
 use Rattle.std.specs.List.{AllByRecursion}
 use Rattle.file_looks.specs.Going.{GoesOn}
@@ -22,7 +22,7 @@ ToldGoesOn [] now = Unit {0}
 ToldGoesOn (one ∷ before) [] = ⊥
 ToldGoesOn (one ∷ before) (same ∷ now) = (same.event ≡ one.event) × PlaceGoesOn one.place same.place × ToldGoesOn before now
 
--- more is told of the epoch
+-- more is reported of the epoch
 pub record EpochGoesOn (before now : EpochAccount) : Type 0 where
   pub same_epoch : now.epoch ≡ before.epoch
   pub same_start : now.start ≡ before.start
@@ -38,7 +38,7 @@ pub record SlotGoesOn (before now : SlotAccount) : Type 0 where
   pub same_key : now.following.key ≡ before.following.key
   pub epochs : EpochsGoOn EpochGoesOn before.epochs now.epochs
 
--- more is told; a slot may be begun between others
+-- more is reported; a slot may be begun between others
 pub record GrownSlot (before : SlotAccount) (account : List SlotAccount) (slot : ℕ) : Type 0 where
   pub now : SlotAccount
   pub is : slot_at slot account ≡ Some now
@@ -88,14 +88,14 @@ AccountReadsOn before now = (slot : ℕ) (one : SlotAccount) → slot_at slot be
 
 -- ---- a file that is followed no further
 
--- nothing more is told of it
+-- nothing more is reported of it
 pub record EpochRests (before now : EpochAccount) : Type 0 where
   pub goes_on : EpochGoesOn before now
   pub as_many : length now.told ≡ length before.told
   pub same_life : now.life ≡ before.life
   pub same_readings : now.readings ≡ before.readings
 
--- more of what was told of it may be acknowledged
+-- more of what was reported of it may be acknowledged
 pub record SlotRests (before now : SlotAccount) : Type 0 where
   pub same_key : now.following.key ≡ before.following.key
   pub same_scan : now.following.known_from ≡ before.following.known_from
@@ -107,7 +107,7 @@ pub record SlotRests (before now : SlotAccount) : Type 0 where
 
 -- ---- what is shown
 
--- a tail tells more looks, and is found as before once it is closed
+-- a tail reports more looks, and is found as before once it is closed
 pub record TraceGoesOn (before now : Trace) : Type 0 where
   pub same_files : now.files ≡ before.files
   pub same_begin : now.began ≡ before.began
@@ -118,7 +118,7 @@ pub record TraceGoesOn (before now : Trace) : Type 0 where
   pub moments : now.moments ≡ before.moments ++ more_moments
   pub wires : WiresGoOn before.wires now.wires
 
--- a scan whose listings and openings stand from this place of the folder's list on
+-- a scan whose listings and openings are from this place of the folder's list on
 pub record IsMadeFrom (place : ℕ) (scan : Scan) : Type 0 where
   pub listed : AllByRecursion (λ listing. place ≤ listing) scan.listings
   pub asked : AllByRecursion (λ asking. IfSome asking.opening (λ opening. place ≤ opening)) scan.askings
@@ -130,5 +130,5 @@ pub record RunGoesOn (before now : Run) : Type 0 where
   pub trace : TraceGoesOn before.trace now.trace
   pub more_scans : List Scan
   pub scans : now.scans ≡ before.scans ++ more_scans
-  -- their listings, and the openings for their entries, stand behind what was done before
+  -- their listings, and the openings for their entries, come after what was done before
   pub made_later : AllByRecursion (IsMadeFrom (length before.trace.events)) more_scans

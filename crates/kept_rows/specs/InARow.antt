@@ -1,5 +1,5 @@
--- Runs in a row (this project's profile): where a run goes on from the row that the run before left, in the same epoch and
--- the same life, the events up to its own row are those of both, adjoining from the place from which the earlier run told
+-- Runs in a row (this project's profile): if a run goes on from the row that the run before left, in the same epoch and
+-- the same life, the events up to its own row are those of both, adjoining from the place from which the earlier run reported
 -- them; each was dropped by its rule or acknowledged in one of the two runs.
 use Rattle.std.specs.Prelude.{◌≡◌, ◌⊎◌, ℕ, List, ◌++◌}
 use Rattle.std.specs.List.{AllByRecursion}
@@ -10,17 +10,17 @@ use Rattle.kept_rows.specs.Account.{AccountedEvent, EpochAccount, events_of, spa
 use Rattle.kept_rows.specs.Kept.{ClosesSettled, IsSettled}
 use Rattle.kept_rows.specs.Trace.{WireTold}
 
--- one run's part: the epoch of its account from which it told its events of the life, and its wires
+-- one run's part: the epoch of its account from which it reported its events of the life, and its wires
 pub record Part : Type 0 where
   pub epoch : EpochAccount
   pub wires : List WireTold
 
--- it told its events of the life, and its row's offset closes those that are settled
+-- it reported its events of the life, and its row's offset closes those that are settled
 pub record LeavesOffset (rules : Rules) (life : List ℕ) (part : Part) (offset : ℕ) : Type 0 where
   pub told : AreTold rules part.epoch.licences life part.epoch.start (events_of part.epoch.told)
   pub closes : ClosesSettled part.wires part.epoch offset
 
--- the later run goes on from where the earlier one's row stood
+-- the later run goes on from where the earlier one's row was
 pub record GoesOnBehind (rules : Rules) (life : List ℕ) (earlier later : Part) (offset : ℕ) : Type 0 where
   pub same_epoch : later.epoch.epoch ≡ earlier.epoch.epoch
   pub left : LeavesOffset rules life earlier later.epoch.start

@@ -1,6 +1,6 @@
--- Kept rows (this project's profile of Filebeat's registry): the offset is the place from which the row's epoch is told, or
--- ends the last of the first told events of that epoch, each of which was dropped by its rule or is acknowledged at the
--- place that the account gives it. A row of a key that was not begun stands as the run found it.
+-- Kept rows (this project's profile of Filebeat's registry): the offset is the place from which the row's epoch is reported, or
+-- ends the last of the first reported events of that epoch, each of which was dropped by its rule or is acknowledged at the
+-- place that the account gives it. A row of a key that was not begun is as the run found it.
 use Rattle.std.specs.Prelude.{◌≡◌, ◌≢◌, ◌⊎◌, ℕ, ◌≤◌, List, ◌++◌, Option, Some, None}
 use Rattle.std.specs.List.{AllByRecursion}
 use Rattle.ship_core.specs.CoveredEnd.{last_end}
@@ -11,7 +11,7 @@ use Rattle.kept_rows.specs.Account.{AccountedEvent, EpochAccount, Place, SlotAcc
 use Rattle.kept_rows.specs.Acknowledged.{IsAcknowledgedAt}
 use Rattle.kept_rows.specs.Trace.{WireTold}
 
--- it was dropped, or its payload stands at its place
+-- it was dropped, or its payload is at its place
 abbrev pub SettlesAs : List WireTold → Fate → Option Place → Type 0
 SettlesAs wires (DroppedBy rule) place = Unit {0}
 SettlesAs wires (ShippedAs payload) None = ⊥
@@ -20,7 +20,7 @@ SettlesAs wires (ShippedAs payload) (Some place) = IsAcknowledgedAt wires payloa
 abbrev pub IsSettled : List WireTold → AccountedEvent → Type 0
 IsSettled wires one = SettlesAs wires one.event.fate one.place
 
--- the offset closes a front of what was told in the epoch, each event of it settled
+-- the offset closes a front of what was reported in the epoch, each event of it settled
 pub record ClosesSettled (wires : List WireTold) (epoch : EpochAccount) (offset : ℕ) : Type 0 where
   pub front : List AccountedEvent
   pub rest : List AccountedEvent
@@ -47,7 +47,7 @@ pub record IsNewestRow (account : List SlotAccount) (wires : List WireTold) (row
   pub told : IsToldRow account wires row
   pub newest : IsNewestSlot account row.key told.slot
 
--- the row stands where it stood as the registry was opened
+-- the row is where it was as the registry was opened
 pub record StandsAsOpened (opening : List Row) (row : Row) : Type 0 where
   pub opened : Row
   pub found : find row.key opening ≡ Some opened

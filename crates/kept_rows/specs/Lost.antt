@@ -20,7 +20,7 @@ use Rattle.kept_rows.specs.Trace.{WireTold}
 
 -- ---- no tail of it was open as the scan was made
 
--- the tail was closed, behind its own opening, before the scan
+-- the tail was closed, after its own opening, before the scan
 pub record WasClosedBefore (run : Run) (scan : Scan) (tail : FollowedTail) : Type 0 where
   pub place : ℕ
   pub looks : List Look
@@ -34,9 +34,9 @@ HadNoOpenTail run scan one = AllByRecursion (WasClosedBefore run scan) one.follo
 
 -- ---- it was removed
 
--- the last looks of its last tail, which was open as the scan was made, are its end look, and all that was told of its last epoch is settled. It ends
--- at the end of the last complete line there, or at the start place where there is none, so that a row there would be kept: this supposes the
--- premises of the slot, since by these alone all bytes that were read of the epoch are of its life. Nothing else supposes anything
+-- the last looks of its last tail, which was open as the scan was made, are its end look, and all that was reported of its last epoch is settled. It ends
+-- at the end of the last complete line there, or at the start place if there is none, so that a row there would be kept: this supposes the
+-- premises of the slot, since only by these all bytes that were read of the epoch are of its life. Nothing else supposes anything
 pub record IsReadAndSettled (run : Run) (wires : List WireTold) (rule : InputRule) (scan : Scan) (one : SlotAccount) : Type 0 where
   pub earlier : List EpochAccount
   pub epoch : EpochAccount
@@ -70,7 +70,7 @@ HeldBefore before now one same = SlotPremises now same.following → SlotPremise
 
 -- ---- it had not changed for long
 
--- the tail was closed, behind its own opening, before each scan behind the one of this number
+-- the tail was closed, after its own opening, before each scan after the one of this number
 pub record WasClosedBehind (run : Run) (number : ℕ) (tail : FollowedTail) : Type 0 where
   pub place : ℕ
   pub looks : List Look
@@ -82,7 +82,7 @@ pub record WasClosedBehind (run : Run) (number : ℕ) (tail : FollowedTail) : Ty
 abbrev pub HadNoOpenTailBehind : Run → ℕ → SlotAccount → Type 0
 HadNoOpenTailBehind run number one = AllByRecursion (WasClosedBehind run number) one.following.tails
 
--- the moment of its row; that of the first scan where it has none
+-- the moment of its row; that of the first scan if it has none
 abbrev pub moment_or_first : ℕ → Scan → ℕ
 moment_or_first moment first = if moment == 0 then first.moment else moment
 
@@ -109,11 +109,11 @@ pub record WasInactiveRightly (run : Run) (rule : InputRule) (one : SlotAccount)
 
 -- ---- together
 
--- its row went by a scan that is not behind the scan of this number
+-- its row went by a scan that is not after the scan of this number
 pub record WentBy (run : Run) (wires : List WireTold) (rule : InputRule) (one : SlotAccount) (last : ℕ) : Type 0 where
   pub why : ((removed : WasRemovedRightly run wires rule one) × (removed.number ≤ last)) ⊎ ((inactive : WasInactiveRightly run rule one) × (inactive.number ≤ last))
 
--- a slot of the key went rightly: so in an image, where a newer slot may not have its row yet
+-- a slot of the key went rightly: the same in an image, where a newer slot may not have its row yet
 pub record IsRightlyLostInImage (run : Run) (account : List SlotAccount) (wires : List WireTold) (key : List ℕ) : Type 0 where
   pub one : SlotAccount
   pub of_account : Contains account one

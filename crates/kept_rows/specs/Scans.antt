@@ -1,8 +1,8 @@
 -- The scans of a run (Filebeat reference, filestream input, prospector; this project's profile): its listings, failed ones
 -- among them, fall in their order into scans of one listing for each glob of the settings; the last may be cut off. A scan
--- is whole where it is not cut off, none of its listings failed, each covered entry was asked for its key, and no asking
--- met a fault. It shows a file with a key under a path where one of its listings has the entry, a glob of the input covers
--- the path, the asking gave that key, and the file is the one that was opened for the asking, or the entry's where none
+-- is whole if it is not cut off, none of its listings failed, each covered entry was asked for its key, and no asking
+-- hit a fault. It shows a file with a key under a path if one of its listings has the entry, a glob of the input covers
+-- the path, the asking gave that key, and the file is the one that was opened for the asking, or the entry's if none
 -- was.
 use Rattle.std.specs.Prelude.{◌≡◌, ◌≢◌, ◌⊎◌, ℕ, suc, ◌-◌, ◌<◌, ◌≤◌, min, List, [], ◌∷◌, ◌++◌, flat_map, length, map, drop, Any, Contains, slice_get, Option, Some, None}
 use Rattle.std.specs.List.{AllByRecursion}
@@ -62,7 +62,7 @@ ListGlobs trace globs [] = Unit {0}
 ListGlobs trace [] (listing ∷ listings) = ⊥
 ListGlobs trace (glob ∷ globs) (listing ∷ listings) = ListsGlob trace glob listing × ListGlobs trace globs listings
 
--- the moments stand among these, in this order; scans one behind the other may have the same
+-- the moments are among these, in this order; scans in sequence may have the same
 abbrev pub StandInOrder : List ℕ → List ℕ → Type 0
 StandInOrder [] moments = Unit {0}
 StandInOrder (one ∷ ones) moments =
@@ -80,7 +80,7 @@ pub record AreScans (run : Run) : Type 0 where
   pub full : AllButTheLast (λ scan. length scan.listings ≡ length (globs_in run.settings.inputs)) run.scans
   pub moments : StandInOrder (map (λ scan. scan.moment) run.scans) run.trace.moments
 
--- the scan was made before this place of the folder's list, and behind it
+-- the scan was made before this place of the folder's list, and after it
 abbrev pub IsBefore : ℕ → Scan → Type 0
 IsBefore place scan = AllByRecursion (λ listing. listing < place) scan.listings
 
@@ -104,7 +104,7 @@ IsNoFingerprint (Fingerprint offset count) = ⊥
 IsNoFingerprint Native = Unit {0}
 IsNoFingerprint Path = Unit {0}
 
--- the tail that was opened gave this key, or none, of the file of this number; one that met a fault gives neither
+-- the tail that was opened gave this key, or none, of the file of this number; one that hit a fault gives neither
 pub record GaveByTail (trace : Trace) (rule : InputRule) (path : List ℕ) (opening : ℕ) (key : Option (List ℕ)) (number : ℕ) : Type 0 where
   pub looks : List Look
   pub file : File
@@ -114,7 +114,7 @@ pub record GaveByTail (trace : Trace) (rule : InputRule) (path : List ℕ) (open
   pub asking : IsAsking rule.file_identity looks
   pub gave : key ≡ given_key rule.id rule.file_identity path file looks
 
--- the entry itself gave it, where no tail is wanted
+-- the entry itself gave it, if no tail is wanted
 pub record GaveByEntry (rule : InputRule) (shown : Shown) (key : Option (List ℕ)) (number : ℕ) : Type 0 where
   pub no_bytes : IsNoFingerprint rule.file_identity
   pub number_is : number ≡ shown.file
@@ -124,7 +124,7 @@ abbrev pub Gave : Trace → InputRule → Shown → Option ℕ → Option (List 
 Gave trace rule shown None key number = GaveByEntry rule shown key number
 Gave trace rule shown (Some opening) key number = GaveByTail trace rule shown.entry.path opening key number
 
--- the opening was made for the scan: behind its listings, and before the next scan
+-- the opening was made for the scan: after its listings, and before the next scan
 pub record IsMadeFor (run : Run) (scan : Scan) (opening : ℕ) : Type 0 where
   pub before : List Scan
   pub behind : List Scan
@@ -176,7 +176,7 @@ pub record IsFirstPath (run : Run) (scan : Scan) (key : List ℕ) (number : ℕ)
 
 -- ---- whole scans
 
--- a tail was opened where the identity reads the file, and there alone: it told one whole asking, and was closed without
+-- a tail was opened if the identity reads the file, and only then: it reported one whole asking, and was closed without
 -- a fault; or nothing was there by the path
 pub record WasAskedByTail (trace : Trace) (rule : IdentityRule) (path : List ℕ) (opening : ℕ) : Type 0 where
   pub number : ℕ
@@ -216,7 +216,7 @@ pub record WasAskedInVain (run : Run) (scan : Scan) (asking : Asking) : Type 0 w
   pub asked_in : IsMadeFor run scan opening
   pub failed : MetFault run.trace asking.path opening
 
--- so each asking of a scan is told
+-- each asking of a scan is reported this way
 abbrev pub WasAskedSo : Run → Scan → Asking → Type 0
 WasAskedSo run scan asking = WasAskedWell run scan asking ⊎ WasAskedInVain run scan asking
 
@@ -245,7 +245,7 @@ pub record IsWhole (run : Run) (scan : Scan) : Type 0 where
 
 -- ---- moments of change
 
--- what a listing tells of the moment of the last change; a later one is taken as the last that there is
+-- what a listing reports of the moment of the last change; a later one is taken as the last that there is
 abbrev pub moment_in : Shown → ℕ
 moment_in shown = min shown.entry.changed.0 MAX_MOMENT
 

@@ -1,6 +1,6 @@
--- Only told events are sent (this project's profile of Lumberjack v2): what was sent over a link is a front of windows whose
--- frames are payloads of told events that are shipped, the frames of one link of different ones. No order is said between
--- files. The last payload may be cut; what was sent of it is the front of a told event's.
+-- Only reported events are sent (this project's profile of Lumberjack v2): what was sent over a link is a front of windows whose
+-- frames are payloads of reported events that are shipped, the frames of one link of different ones. No order is said between
+-- files. The last payload may be cut; what was sent of it is the front of a reported event's.
 use Rattle.std.specs.Prelude.{◌≡◌, ℕ, List, ◌++◌, flat_map, map, Contains, Option, Some, None}
 use Rattle.std.specs.List.{AllByRecursion}
 use Rattle.lumber_frame.specs.Talk.{out_bytes}
@@ -12,7 +12,7 @@ use Rattle.kept_rows.specs.Acknowledged.{talks_of}
 use Rattle.kept_rows.specs.Scans.{AreDistinct}
 use Rattle.kept_rows.specs.Trace.{WireTold}
 
--- where an event is told
+-- where an event is reported
 pub record ToldAt : Type 0 where
   pub slot : ℕ
   pub epoch : ℕ
@@ -23,7 +23,7 @@ pub record Sending : Type 0 where
   pub of : ToldAt
   pub payload : List ℕ
 
--- the account tells the event, and ships it as this payload
+-- the account has the event, and ships it as this payload
 pub record IsShipped (account : List SlotAccount) (sending : Sending) : Type 0 where
   pub epoch : EpochAccount
   pub epoch_is : epoch_of account sending.of.slot sending.of.epoch ≡ Some epoch

@@ -1,5 +1,5 @@
 -- Rows that are stored as far as events are settled (this project's profile): no event that begins at a row's offset, in the row's epoch, is
--- settled. So a run that goes on from the row sends again only what was acknowledged behind an event that was not.
+-- settled. So a run that goes on from the row sends again only what was acknowledged after an event that was not.
 use Rattle.std.specs.Prelude.{◌≡◌, ◌⊎◌, ℕ, List, Contains}
 use Rattle.std.specs.List.{AllByRecursion}
 use Rattle.told_events.specs.Fate.{cause_of_fate}

@@ -1,4 +1,4 @@
--- What is told in an epoch (Filebeat reference, filestream input and multiline messages; this project's profile), and the
+-- What is reported in an epoch (Filebeat reference, filestream input and multiline messages; this project's profile), and the
 -- account of a run as a whole.
 use Rattle.std.specs.Prelude.{◌≡◌, ◌⊎◌, ℕ, ◌<◌, ◌≤◌, ◌==◌, true, List, [], ◌∷◌, ◌++◌, map, Any, Contains, slice_get, Some, IfSome, if◌then◌else◌}
 use Rattle.std.specs.List.{AllByRecursion}
@@ -24,7 +24,7 @@ use Rattle.kept_rows.specs.Trace.{IsTail}
 
 -- ---- where an event may be flushed
 
--- a whole scan that was made behind the opening did not show the file with its key
+-- a whole scan that was made after the opening did not show the file with its key
 pub record WasRemoved (run : Run) (one : SlotAccount) (opening : ℕ) : Type 0 where
   pub scan : Scan
   pub of_run : Contains run.scans scan
@@ -61,9 +61,9 @@ pub record IsToldOf (run : Run) (one : SlotAccount) (epoch : EpochAccount) (told
   pub path : IsPathOf run one epoch told
   pub given : Contains run.trace.moments told.event.now
 
--- ---- what is told
+-- ---- what is reported
 
--- the events are told of the epoch's life, each flush at a place that is licensed
+-- the events are reported of the epoch's life, each flush at a place that is licensed
 pub record AreToldIn (run : Run) (rules : Rules) (one : SlotAccount) (epoch : EpochAccount) : Type 0 where
   pub file : File
   pub file_is : slice_get run.trace.files one.number ≡ Some file
@@ -74,7 +74,7 @@ pub record AreToldIn (run : Run) (rules : Rules) (one : SlotAccount) (epoch : Ep
 abbrev pub IsEpochTold : Run → Rules → SlotAccount → EpochAccount → Type 0
 IsEpochTold run rules one epoch = (epoch.told ≡ []) ⊎ AreToldIn run rules one epoch
 
--- the moment of a key's opening row, or 0 where it has none
+-- the moment of a key's opening row, or 0 if it has none
 abbrev pub opening_moment : List Row → List ℕ → ℕ
 opening_moment opening key = option_map_or (λ (row : Row). row.changed.0) (find key opening) 0
 
@@ -87,7 +87,7 @@ pub record IsListedMoment (run : Run) (key : List ℕ) (moment : ℕ) : Type 0 w
   pub shows : ShowsFileAt run scan key number shown
   pub moment_is : moment ≡ moment_in shown
 
--- the moment with which a slot begins: that of the key's opening row, 0 where it has none or was made known later
+-- the moment with which a slot begins: that of the key's opening row, 0 if it has none or was made known later
 abbrev pub begun_moment : Run → Following → ℕ
 begun_moment run following = if following.known_from == 0 then opening_moment run.opening following.key else 0
 
@@ -112,7 +112,7 @@ pub record IsSlotAccount (run : Run) (one : SlotAccount) : Type 0 where
 
 -- ---- the whole account
 
--- slot by slot: each is as the run told it where its own premises hold. Which epochs it had, and that no two events were acknowledged
+-- slot by slot: each is as the run reported it if its own premises hold. Which epochs it had, and that no two events were acknowledged
 -- at one place, supposes nothing
 pub record AreSlotAccounts (run : Run) (account : List SlotAccount) : Type 0 where
   pub epochs : AllByRecursion (AreEpochs run) account

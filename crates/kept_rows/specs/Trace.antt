@@ -1,4 +1,4 @@
--- What a run shows (this project's profile): the files, all that was done with the folder, of which the first so many things
+-- What a run shows (this project's profile): the files, all that was done with the folder, of which this many things
 -- were done before the run, the looks of tails that are open, the moments that the clock gave in the run, and for each
 -- wire what became of its connections in the run, and the talk of a link that is not finished.
 use Rattle.std.specs.Prelude.{◌≡◌, ℕ, suc, ◌≤◌, ◌==◌, drop, List, [], ◌∷◌, slice_get, Option, Some, None, option_map, if◌then◌else◌}
@@ -26,7 +26,7 @@ pub record Trace : Type 0 where
   pub moments : List ℕ
   pub wires : List WireTold
 
--- ---- a tail, which is found by the place of its opening and by its closing behind it
+-- ---- a tail, which is found by the place of its opening and by its closing after it
 
 pub record Closing : Type 0 where
   pub looks : List Look
@@ -49,7 +49,7 @@ abbrev pub closing_in : ℕ → List Event → Option Closing
 closing_in opening [] = None
 closing_in opening (event ∷ events) = first_of_two (closing_by opening event) (closing_in opening events)
 
--- the closing of the tail that was opened there: the first behind its opening. One that stands before it took back the tail of
+-- the closing of the tail that was opened there: the first after its opening. One that comes before it took back the tail of
 -- another folder, in whose list the number is that of an opening, too
 abbrev pub closing_of : Trace → ℕ → Option Closing
 closing_of trace opening = closing_in opening (drop (suc opening) trace.events)
@@ -58,12 +58,12 @@ abbrev pub open_looks_in : ℕ → List OpenTail → Option (List Look)
 open_looks_in opening [] = None
 open_looks_in opening (tail ∷ tails) = if tail.opening == opening then Some tail.looks else open_looks_in opening tails
 
--- the looks that the tail tells, closed or open
+-- the looks that the tail reports, closed or open
 abbrev pub looks_of : Trace → ℕ → Option (List Look)
 looks_of trace opening =
     first_of_two (option_map (λ closing. closing.looks) (closing_of trace opening)) (open_looks_in opening trace.open_tails)
 
--- in this run the file of this number was opened by the path, and the tail tells these looks
+-- in this run the file of this number was opened by the path, and the tail reports these looks
 pub record IsTail (trace : Trace) (opening : ℕ) (path : List ℕ) (number : ℕ) (looks : List Look) : Type 0 where
   pub in_this_run : trace.began ≤ opening
   pub begun : Sight

@@ -44,14 +44,14 @@ pub fn rows_over_backed_notes_are_kept()
     covered_end_closes_a_prefix();
 }
 
-/// Where the premises hold of all slots, what is said slot by slot is said of the run as a whole: its account, and that its
+/// If the premises hold of all slots, what is said slot by slot is said of the run as a whole: its account, and that its
 /// folder is drained. A law; it computes nothing.
 pub fn premises_of_all_slots_give_the_whole()
     ensures { (run : Run) (account : List SlotAccount) (rows : List Row) →
         SlotsGiveTheWhole run account rows }
 {}
 
-/// Where a run goes on from the row that the run before left, in its epoch and life, the events up to its own row are those
+/// If a run goes on from the row that the run before left, in its epoch and life, the events up to its own row are those
 /// of both, each dropped by its rule or acknowledged in one of the two. A law; it computes nothing.
 pub fn runs_in_a_row_adjoin()
     ensures { (rules : Rules) (life : List ℕ) (earlier later : Part) (offset : ℕ) →
@@ -84,14 +84,14 @@ pub fn links_go_on()
         (talks_of (record { outcomes = outcomes; open_talk = Some talk })) }
 {}
 
-/// A kept row stays kept as more is told and talks grow. A law; it computes nothing.
+/// A kept row stays kept as more is reported and talks grow. A law; it computes nothing.
 pub fn kept_rows_stay_kept()
     ensures { (before now : List SlotAccount) (wires later : List WireTold) (row : Row) →
         AccountGoesOn before now → WiresGoOn wires later → IsToldRow before wires row →
         IsToldRow now later row }
 {}
 
-/// What was sent as told events is that still as more is told. A law; it computes nothing.
+/// What was sent as reported events is still that as more is reported. A law; it computes nothing.
 pub fn told_events_are_sent_still()
     ensures { (before now : List SlotAccount) (talk : List Piece) → AccountGoesOn before now →
         SendsOnlyTold before talk → SendsOnlyTold now talk }

@@ -1,4 +1,4 @@
--- One of a lane's harvesters between two rounds, by its slot or its seat (this project's profile): what is told of its file
+-- One of a lane's harvesters between two rounds, by its slot or its seat (this project's profile): what is reported of its file
 -- reaches it, nothing else changes, and what a look at it gives.
 use Rattle.std.specs.Prelude.{◌≡◌, ◌⊎◌, ◌↔◌, ℕ, Bool, false, List, Option, Some, IfSome, IsNone, IsTrue, slice_get, slice_set}
 use Rattle.outside.specs.Tails.{TailHistory}
@@ -17,7 +17,7 @@ pub record KeepsOthers {T : Type 0} (old new : Harvester T) : Type 0 where
   pub begin_kept : begin_of new ≡ begin_of old
   pub changed_kept : IsChanged new → IsChanged old
 
--- what it tells later has this path
+-- what it reports later has this path
 pub record HasRenamed {T : Type 0} (numbers : T → Option (ℕ × ℕ)) (told : T → Option TailHistory) (path : List ℕ) (old new : Harvester T) : Type 0 where
   pub renamed : (history : History) → HasTold numbers told history old → HasTold numbers told (with_path path history) new
   pub keeps : KeepsOthers old new

@@ -1,5 +1,5 @@
 -- What a turn of a harvester gives to be handed on (this project's profile): an event that is to be sent as its parcel; one
--- that a rule dropped as its settlement; a new life as its epoch's announcement; and, where the file is to be forgotten, its
+-- that a rule dropped as its settlement; a new life as its epoch's announcement; and, if the file is to be forgotten, its
 -- end as a forgetting.
 use Rattle.std.specs.Prelude.{◌≡◌, ◌⊎◌, ◌<◌, ℕ, List, [], ◌∷◌, Option, true, false}
 use Rattle.outside.specs.Tails.{TailHistory}
@@ -30,7 +30,7 @@ notes_in (given.Parcel parcel) = []
 notes_in (given.Note note) = note ∷ []
 notes_in given.Nothing = []
 
--- how many spans were told by it
+-- how many spans were reported by it
 abbrev pub spans_in_note : Note → ℕ
 spans_in_note (Begin slot key path epoch base changed) = 0
 spans_in_note (Announce slot epoch) = 0
@@ -50,11 +50,11 @@ IsInRange (given.Parcel parcel) = IsParcel parcel
 IsInRange (given.Note note) = IsPostable note × IsNote note
 IsInRange given.Nothing = Unit {0}
 
--- the epoch of a harvester, by whatever it told
+-- the epoch of a harvester, by whatever it reported
 abbrev pub IsEpochOf : {T : Type 0} → (T → Option (ℕ × ℕ)) → (T → Option TailHistory) → Harvester T → Epoch → Type 0
 IsEpochOf numbers told harvester epoch = (history : History) → HasTold numbers told history harvester → epoch.0 ≡ history.present.epoch
 
--- the file is to be forgotten, and is told up to this place
+-- the file is to be forgotten, and is reported up to this place
 pub record GivesForget {T : Type 0} (numbers : T → Option (ℕ × ℕ)) (told : T → Option TailHistory) (harvester : Harvester T) (what : Given) : Type 0 where
   pub epoch : Epoch
   pub end : ℕ

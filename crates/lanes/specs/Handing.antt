@@ -19,7 +19,7 @@ abbrev pub PutsOf : TableId → Option Known → Type 0
 PutsOf queue None = ⊥
 PutsOf queue (Some put) = put.queue ≡ queue
 
--- these were put behind the others
+-- these were put after the others
 abbrev pub with_put : Option Known → List Entry → Option Known
 with_put None entries = None
 with_put (Some put) entries = Some (known put.queue put.share (put.entries ++ entries))

@@ -26,5 +26,5 @@ pub record LaneKeeps {T : Type 0} (numbers : T → Option (ℕ × ℕ)) (told : 
   pub ran : Run numbers told faults steps old.harvesters new.harvesters
   pub spans : new.spans ≡ added_counts old.spans (spans_in steps)
   pub in_range : IsInRange old.held → IsInRange new.held
-  -- of each harvester it is still known what it told
+  -- of each harvester it is still known what it reported
   pub known : All (IsKnown numbers told) old.harvesters → All (IsKnown numbers told) new.harvesters

@@ -14,13 +14,13 @@ use Rattle.lanes.specs.declared.seat.Seat.{Seat}
 use Rattle.lanes.specs.declared.tally.Tally.{Tally}
 
 pub record Laning (T : Type 0) : Type 0 where
-  -- what it puts by, and what it posts by; none where they are laid down
+  -- what it puts by, and what it posts by; none if they are laid down
   pub put : Option Known
   pub post : Option Poster
   pub harvesters : List (Harvester T)
   -- what was refused
   pub held : Given
-  -- how many spans its harvesters told here
+  -- how many spans its harvesters reported here
   pub spans : ℕ
   -- what the turns of the last round came to
   pub tally : Tally
@@ -52,24 +52,24 @@ IsOfSlot slot harvester = (begin_of harvester).slot ≡ slot
 abbrev pub IsOfAnother : {T : Type 0} → Slot → Harvester T → Type 0
 IsOfAnother slot harvester = (begin_of harvester).slot ≢ slot
 
--- it stands there
+-- it is there
 pub record StandsAt {T : Type 0} (slot : Slot) (harvesters : List (Harvester T)) (index : ℕ) : Type 0 where
   pub one : Harvester T
   pub is : slice_get harvesters index ≡ Some one
   pub of_slot : IsOfSlot slot one
 
--- the one of this seat was let go, and the last one takes the seat
+-- the one of this seat was released, and the last one takes the seat
 pub record ReleasesAt {T : Type 0} (seat : ℕ) (old new : Laning T) (harvester : Harvester T) : Type 0 where
   pub was : slice_get old.harvesters seat ≡ Some harvester
   pub is : new ≡ record old { harvesters = swap_remove old.harvesters seat harvester }
 
--- one of this slot was let go
+-- one of this slot was released
 pub record Releases {T : Type 0} (slot : Slot) (old new : Laning T) (harvester : Harvester T) : Type 0 where
   pub of_slot : IsOfSlot slot harvester
   pub seat : ℕ
   pub released : ReleasesAt seat old new harvester
 
--- the last one was let go
+-- the last one was released
 pub record Pops {T : Type 0} (old new : Laning T) (harvester : Harvester T) : Type 0 where
   pub were : old.harvesters ≡ new.harvesters ++ harvester ∷ []
   pub others : new ≡ record old { harvesters = new.harvesters }

@@ -63,6 +63,6 @@ pub record LaneRuns {T : Type 0} (numbers : T → Option (ℕ × ℕ)) (told : T
   pub once : (index : ℕ) → turns_of index first ≤ 1
   pub few : length more ≤ 256 - min (length old.harvesters) 256
   pub reached : AreAllTurned first old.harvesters ⊎ ((more ≡ []) × (new.held ≢ Nothing))
-  -- something is held only where it was refused, and then nothing more is turned
+  -- something is held only if it was refused, and then nothing more is turned
   pub refused : WasRefused queue box new.held new.put new.post
   pub last : (new.held ≡ Nothing) ⊎ ((keeps.steps ≡ []) ⊎ EndWith keeps.steps new.held)

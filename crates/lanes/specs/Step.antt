@@ -29,7 +29,7 @@ abbrev pub noted_in : List Step → List Note
 noted_in [] = []
 noted_in (step ∷ steps) = notes_in step.given ++ noted_in steps
 
--- how many spans were told
+-- how many spans were reported
 abbrev pub spans_in : List Step → ℕ
 spans_in [] = 0
 spans_in (step ∷ steps) = spans_of step.given + spans_in steps

@@ -1,4 +1,4 @@
--- The turns of a lane's harvesters, one behind the other (this project's profile).
+-- The turns of a lane's harvesters, one after another (this project's profile).
 use Rattle.std.specs.Prelude.{◌≡◌, ℕ, List, [], ◌∷◌, Option, Some, slice_get, slice_set}
 use Rattle.outside.specs.Counts.{added_counts}
 use Rattle.outside.specs.Tails.{TailHistory}

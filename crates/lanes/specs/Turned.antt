@@ -1,4 +1,4 @@
--- One turn of a harvester that stands in a lane, as its contract says (Filebeat reference, filestream input; this project's
+-- One turn of a harvester that is in a lane, as its contract says (Filebeat reference, filestream input; this project's
 -- profile).
 use Rattle.std.specs.Prelude.{◌≡◌, ◌↔◌, ◌||◌, ◌≤◌, ℕ, Bool, Option, IsTrue}
 use Rattle.outside.specs.Counts.{Rose}
@@ -24,6 +24,6 @@ pub record HasTurned {T : Type 0} (numbers : T → Option (ℕ × ℕ)) (told : 
   pub faults_never_fall : faults old.tail ≤ faults new.tail
   pub read_fault_only_where_faults_rose : (history : History) → HasTold numbers told history old → turn ≡ ReadFault → Rose (faults old.tail) (faults new.tail)
 
--- what it told is known
+-- what it reported is known
 abbrev pub IsKnown : {T : Type 0} → (T → Option (ℕ × ℕ)) → (T → Option TailHistory) → Harvester T → Type 0
 IsKnown numbers told harvester = (history : History) × HasTold numbers told history harvester

@@ -38,7 +38,7 @@ impl<T: Tail> Lane<T> {
         }
     }
 
-    /// Takes a harvester in, behind the others. `Err` means out of memory, and gives it back.
+    /// Takes a harvester in, after the others. `Err` means out of memory, and gives it back.
     pub fn admit(&mut self, harvester: Harvester<T>) -> Result<(), Harvester<T>>
         ensures admitted { OnOk result (laning self.new ≡ record (laning self.old) {
           harvesters = (laning self.old).harvesters ++ harvester ∷ [];
@@ -56,7 +56,7 @@ impl<T: Tail> Lane<T> {
         Ok(())
     }
 
-    /// Lends the harvester of this slot; what is left in it stands at its place then. `None` exactly where there is none.
+    /// Lends the harvester of this slot; what is left in it is at its place then. `None` exactly if there is none.
     /// Takes no memory, and little time if there is one.
     pub fn find(&mut self, slot: Slot) -> Option<&mut Harvester<T>>
         ensures* lends { sem 𝓛 (LendsFound T.row slot self.entry result) }
@@ -69,7 +69,7 @@ impl<T: Tail> Lane<T> {
         Some(&mut seat.harvester)
     }
 
-    /// Lets the harvester of this slot go; the last one takes its seat. `None` exactly where there is none. Takes no memory,
+    /// Releases the harvester of this slot; the last one takes its seat. `None` exactly if there is none. Takes no memory,
     /// and little time if there is one.
     pub fn release(&mut self, slot: Slot) -> Option<Harvester<T>>
         ensures released { IfSome result (Releases slot (laning self.old) (laning self.new)) }
@@ -80,7 +80,7 @@ impl<T: Tail> Lane<T> {
         Some(self.release_at(index))
     }
 
-    /// Lets the harvester that was admitted last go. `None` exactly where there is none. Takes no memory, and little time.
+    /// Releases the harvester that was admitted last. `None` exactly if there is none. Takes no memory, and little time.
     pub fn pop(&mut self) -> Option<Harvester<T>>
         ensures popped { IfSome result (Pops (laning self.old) (laning self.new)) }
         ensures none { IfNone result ((laning self.old).harvesters ≡ []) }
@@ -91,7 +91,7 @@ impl<T: Tail> Lane<T> {
         Some(seat.harvester)
     }
 
-    /// At which place a harvester of this slot stands: where it stood last, or else by a look at each.
+    /// At which place a harvester of this slot is: where it was last, or else by a look at each.
     pub(crate) fn place_of(&self, slot: Slot) -> Option<usize>
         ensures stands { IfSome result (StandsAt slot (laning self.now).harvesters) }
         ensures none { IfNone result (All (IsOfAnother slot) (laning self.now).harvesters) }
@@ -130,7 +130,7 @@ impl<T: Tail> Lane<T> {
         }
     }
 
-    /// Whether it holds nothing, and no further turn of its harvesters would find anything: of each the last one found the end
+    /// Whether it holds nothing, and no further turn of its harvesters would find anything: the last turn of each found the end
     /// and no event waits, or the file has changed or its last epoch is over.
     pub fn is_done(&self) -> bool
         ensures done { OnTrue result (IsDone (laning self.now)) }
@@ -153,7 +153,7 @@ impl<T: Tail> Lane<T> {
         true
     }
 
-    /// How many spans its harvesters told in this lane. The count saturates at 2^64 - 1.
+    /// How many spans its harvesters reported in this lane. The count saturates at 2^64 - 1.
     pub fn spans(&self) -> u64
         ensures { result ≡ self.now.spans }
     {
@@ -246,7 +246,7 @@ impl<T: Tail> Lane<T> {
         released
     }
 
-    /// The harvester of this slot tells later events with this path. Whether there is one. Takes no memory.
+    /// The harvester of this slot reports later events with this path. Whether there is one. Takes no memory.
     pub fn rename(&mut self, slot: Slot, path: Text) -> bool
         ensures renamed { OnTrue result (ChangesOne slot (HasRenamed T.numbers T.told path)
             (laning self.old) (laning self.new)) }
@@ -292,7 +292,7 @@ impl<T: Tail> Lane<T> {
         true
     }
 
-    /// Where the harvester of this slot stands by what was kept of its place.
+    /// Where the harvester of this slot is by what was kept of its place.
     pub(crate) fn kept_place(&self, slot: Slot) -> Option<usize>
         ensures { IfSome result (StandsAt slot (laning self.now).harvesters) }
     {
@@ -314,7 +314,7 @@ impl<T: Tail> Lane<T> {
         let _ = self.places.insert(slot.0, place);
     }
 
-    /// Another harvester stands at this place, if any does.
+    /// Another harvester is at this place, if any does.
     fn move_place(&mut self, place: usize)
         ensures { laning self.new ≡ laning self.old }
     {

@@ -25,7 +25,7 @@ impl Given {
         }
     }
 
-    /// How many spans were told by it.
+    /// How many spans were reported by it.
     pub(crate) fn spans(&self) -> u64
         ensures { result ≡ spans_of self.now }
     {

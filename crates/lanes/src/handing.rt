@@ -27,7 +27,7 @@ pub struct Outlets<'a> {
 
 impl<T: Tail> Lane<T> {
     /// Posts the note that the box refused, if one is held. Whether no note is left; one is left
-    /// only where the box was full.
+    /// only if the box was full.
     pub fn hand_on<R: Wait>(&mut self, rt: &R, desk: &SettleBox) -> bool
         requires of_this_box { PostsOf desk.now.id self.old.post }
         requires in_range { IsInRange self.old.held }

@@ -14,8 +14,8 @@ pub struct Lane<T> {
     pub(crate) held: Given,
     pub(crate) spans: u64,
     pub(crate) tally: Tally,
-    /// With which harvester the next round begins, so that where each round is refused all have their turns.
+    /// With which harvester the next round begins, so that if each round is refused all have their turns.
     pub(crate) next: usize,
-    /// At which place the harvester of a slot stood last: where to look first.
+    /// At which place the harvester of a slot was last: where to look first.
     pub(crate) places: BTreeMap<u32, usize>,
 }

@@ -1,4 +1,4 @@
-//! Lanes: files that are read side by side in one thread, each told as events, and handed on.
+//! Lanes: files that are read side by side in one thread, each reported as events, and handed on.
 //!
 //! A lane has the harvesters of its files and a pass for each of two shared objects: what is to be
 //! sent it puts into the queue, and what is settled, announced or forgotten it posts to the box. It

@@ -30,7 +30,7 @@ pub struct When {
 }
 
 impl<T: Tail> Lane<T> {
-    /// One round: hands on what is held, and then turns each harvester once, and where that makes less than 256 turns, those
+    /// One round: hands on what is held, and then turns each harvester once, and if that makes less than 256 turns, those
     /// that go on once more, in passes. What is refused is held, and ends the round. A harvester that has changed is not turned.
     pub fn run<R: Wait>(&mut self, rt: &R, alloc: Global, outlets: Outlets<'_>, when: When)
         requires of_this_queue { PutsOf outlets.queue.now.id self.old.put }

@@ -5,7 +5,7 @@ use wire_base::{Epoch, Moment, Slot};
 pub struct SeatLook {
     pub slot: Slot,
     pub epoch: Epoch,
-    /// The end of the last span that was told in the epoch, or the place from which it is read, in bytes.
+    /// The end of the last span that was reported in the epoch, or the place from which it is read, in bytes.
     pub told_to: u64,
     /// The place up to which the epoch was read, in bytes.
     pub read_to: u64,

@@ -7,11 +7,11 @@ use wire_base::Slot;
 /// What the turns of a round came to.
 #[derive(Clone, Copy, Debug, PartialEq, Eq)]
 pub struct Tally {
-    /// What was held went through, bytes were read, a span was told, or a new life was met, be it another file's.
+    /// What was held went through, bytes were read, a span was reported, or a new life was found, be it another file's.
     pub moved: bool,
     /// Some turn found no memory.
     pub memory: bool,
-    /// How many turns met a read fault. The count saturates at 2^64 - 1.
+    /// How many turns hit a read fault. The count saturates at 2^64 - 1.
     pub tail_faults: u64,
     /// The first file of which a read failed.
     pub failed: Option<Slot>,

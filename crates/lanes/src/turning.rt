@@ -44,7 +44,7 @@ impl<T: Tail> Lane<T> {
         self.turn_each_of(rt, alloc, outlets, when, 0..next)
     }
 
-    /// Turns those that go on, in passes, and makes at most so many turns.
+    /// Turns those that go on, in passes, and makes at most this many turns.
     pub(crate) fn turn_on<R: Wait>(
         &mut self,
         rt: &R,
@@ -72,7 +72,7 @@ impl<T: Tail> Lane<T> {
         Ok(())
     }
 
-    /// One turn of each that goes on, but at most so many. How many it made.
+    /// One turn of each that goes on, but at most this many. How many it made.
     fn turn_those<R: Wait>(
         &mut self,
         rt: &R,

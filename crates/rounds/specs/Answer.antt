@@ -9,7 +9,7 @@ use Rattle.rounds.specs.declared.carrier.Carrier.{Carrier}
 use Rattle.rounds.specs.declared.answer.Round.{Round}
 use Rattle.rounds.specs.declared.storing.Stored.{Stored}
 
--- by the keeper's turns alone
+-- only by the keeper's turns
 abbrev pub of_stored : Stored → Round
 of_stored stored = record { moved = stored.moved; memory = stored.memory; disk = stored.disk; tail_faults = 0; epochs = None; failures = 0 }
 

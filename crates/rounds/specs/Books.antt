@@ -1,5 +1,5 @@
--- Where everything is that was told (this project's profile): what harvesters told to be sent is held by a lane, stands in the
--- queue, is carried by a worker or is acknowledged; and what lanes and workers noted is held or owed by them, stands in the box
+-- Where everything is that was reported (this project's profile): what harvesters reported to be sent is held by a lane, is in the
+-- queue, is carried by a worker or is acknowledged; and what lanes and workers noted is held or owed by them, is in the box
 -- or was collected.
 use Rattle.std.specs.Prelude.{ℕ, List, ◌++◌}
 use Rattle.std.specs.List.{flat_map}
@@ -24,7 +24,7 @@ pub record Heard : Type 0 where
   pub start : ℕ
   pub parcels : List Parcel
 
--- all that was told so far: the parcels that harvesters issued, the notes that they gave, and of each worker what its wire's
+-- all that was reported so far: the parcels that harvesters issued, the notes that they gave, and of each worker what its wire's
 -- talks acknowledged since it began
 pub record Told : Type 0 where
   pub issued : List Parcel
@@ -60,7 +60,7 @@ owed_notes {W} {L} carriers = flat_map (λ (c : Carrier W L). owed_by c.worker) 
 abbrev pub Acknowledges : {W L : Type 0} → LinkWords L → WireWords W → Heard → Carrier W L → Type 0
 Acknowledges links wires heard carrier = StandsFor links.told heard.start carrier.worker (wires.outcomes carrier.wire) heard.parcels
 
--- what the passes know and what is held accounts for all that was told
+-- what the passes know and what is held accounts for all that was reported
 pub record AreBooked {T W L : Type 0} (links : LinkWords L) (wires : WireWords W) (told : Told) (lanes : List (Laning T)) (carriers : List (Carrier W L)) : Type 0 where
   pub put : AsOften told.issued (parcels (entries (lanes_passes lanes)) ++ held_parcels lanes)
   pub taken : AsOften (parcels (entries (carriers_passes carriers))) (flat told.acknowledged ++ carried_by carriers)

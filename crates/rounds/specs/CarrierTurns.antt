@@ -101,7 +101,7 @@ module _ {W L : Type 0} (links : LinkWords L) (wires : WireWords W) (box : ℕ) 
     pub carried : new.carried ≡ carried_with turn old.carried
     pub worked_is : HasWorked worked turn
 
-  -- so many turns were made so far, each of which worked
+  -- this many turns were made so far, each of which worked
   pub record CarriesSoFar (count : ℕ) (old new : Carrier W L) : Type 0 where
     pub turns : List WorkerTurn
     pub many : length turns ≡ count

@@ -1,4 +1,4 @@
--- Why a round answers so (this project's profile): a disk failed as the faults of an area rose; that files met read faults, or
+-- Why a round answers this (this project's profile): a disk failed as the faults of an area rose; that files hit read faults, or
 -- were out of epochs, is what turns of theirs answered; and no count of faults falls. Memory may be refused at any time.
 use Rattle.std.specs.Prelude.{◌≡◌, ◌≢◌, ◌⊎◌, ◌≤◌, true, List, Some}
 use Rattle.harvester.specs.declared.turn.Turn.TheVariants.{EpochsOut, ReadFault}
@@ -25,7 +25,7 @@ pub record LanesHad {T W L D : Type 0} (tails : TailWords T) (queue : BoundedQue
   pub steps_are : AreStepsOf tails queue.capacity desk.capacity when steps (lanings old.lanes.items) lanes
   pub lanes_are : bare_lanes (lanings new.lanes.items) ≡ bare_lanes lanes
 
--- the turn met a read fault
+-- the turn hit a read fault
 abbrev pub MetFault : Step → Type 0
 MetFault step = step.turn ≡ ReadFault
 

@@ -50,13 +50,13 @@ module _ {D : Type 0} (disks : DiskWords D) (opening : List Row) (notes : List N
         (λ image. (other : List ℕ) → disks.images (of_area (other_area written) old.a old.b) other →
         GivesFronts opening notes (of_area written image other) (of_area written other image))
     pub other_same : of_area (other_area written) new.a new.b ≡ of_area (other_area written) old.a old.b
-    -- each area alone, be it the one that is chosen or not
+    -- each area by itself, be it the one that is chosen or not
     pub of_a : LeavesOnly disks.moment disks.images_since old.a new.a (MayHoldFronts opening notes (disks.contents old.a) old.keeper.store.generation)
     pub of_b : LeavesOnly disks.moment disks.images_since old.b new.b (MayHoldFronts opening notes (disks.contents old.b) old.keeper.store.generation)
-    -- and what both hold after the turn, also where a disk failed
+    -- and what both hold after the turn, also if a disk failed
     pub left : (first second : List ℕ) → disks.contents new.a ≡ Some first → disks.contents new.b ≡ Some second → GivesFronts opening notes first second
 
-  -- so many turns, one behind the other
+  -- this many turns, one after another
   abbrev pub TurnsLeave : ℕ → StoringState D → StoringState D → Type 0
   TurnsLeave zero old new = new ≡ old
   TurnsLeave (suc turns) old new = (mid : StoringState D) × TurnLeaves old mid × TurnsLeave turns mid new

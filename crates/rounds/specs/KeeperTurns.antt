@@ -74,7 +74,7 @@ pub record SameObjects {D : Type 0} (old new : Storing D) : Type 0 where
   pub a : new.a.ghost_name ≡ old.a.ghost_name
   pub b : new.b.ghost_name ≡ old.b.ghost_name
 
--- an area that told what it holds tells it still
+-- an area that reported what it holds reports it still
 pub record StillTell {D : Type 0} (contents : D → Option (List ℕ)) (old new : Storing D) : Type 0 where
   pub a : IsSome (contents old.a.now) → IsSome (contents new.a.now)
   pub b : IsSome (contents old.b.now) → IsSome (contents new.b.now)
@@ -134,7 +134,7 @@ module _ {D : Type 0} (disks : DiskWords D) where
     pub stored : new.stored ≡ stored_with turn old.stored
     pub kept_is : HasKept kept turn
 
-  -- so many turns were made so far, each of which kept something
+  -- this many turns were made so far, each of which kept something
   pub record KeepsSoFar (count : ℕ) (old new : Storing D) : Type 0 where
     pub turns : List KeeperTurn
     pub many : length turns ≡ count

@@ -53,7 +53,7 @@ pub record IsBegunLane {T : Type 0} (lane : Laning T) : Type 0 where
   pub post : Poster
   pub is : lane ≡ begun_with put post
 
--- one more came behind the others, as it is made
+-- one more came after the others, as it is made
 pub record AddsLane {T : Type 0} (put : Known) (post : Poster) (old new : List (Laning T)) : Type 0 where
   pub is : new ≡ old ++ begun_with put post ∷ []
 
@@ -78,7 +78,7 @@ HaveHosts hosts number (carrier ∷ carriers) = (slice_get hosts (number % lengt
 abbrev pub wires_of : {W L : Type 0} → List (Carrier W L) → List W
 wires_of carriers = map (λ carrier. carrier.wire) carriers
 
--- one more came behind the others: a worker of this rule with the first wire
+-- one more came after the others: a worker of this rule with the first wire
 pub record AddsCarrier {W L : Type 0} (rule : OutputRule) (number : ℕ) (take : Known) (post : Poster) (wires left : List W) (old new : List (Carrier W L)) : Type 0 where
   pub carrier : Carrier W L
   pub is : new ≡ old ++ carrier ∷ []

@@ -1,4 +1,4 @@
--- What it means that a round moved (this project's profile): something was read, told, met, handed on, sent, received or stored;
+-- What it means that a round moved (this project's profile): something was read, reported, found, handed on, sent, received or stored;
 -- and that it did not: no turn of any of them did.
 use Rattle.std.specs.Prelude.{◌≡◌, ◌⊎◌, ℕ, true, false}
 use Rattle.std.specs.List.{AllByRecursion}
@@ -26,7 +26,7 @@ use Rattle.rounds.specs.declared.storing.Storing.{Storing}
 
 -- ---- lanes
 
--- a turn of a file read bytes, told a span or met a new life, be it another file's
+-- a turn of a file read bytes, reported a span or found a new life, be it another file's
 abbrev pub IsMoving : Turn → Type 0
 IsMoving (Issued parcel) = Unit {0}
 IsMoving (Passed span rule) = Unit {0}
@@ -49,7 +49,7 @@ pub record LaneWasStill {T : Type 0} (tails : TailWords T) (queue box : ℕ) (wh
   pub not_moved : runs.moved ≡ false
   pub each : AllByRecursion (λ (s : Step). ¬ (IsMoving s.turn)) runs.keeps.steps
 
--- where it holds nothing then, none of its files was passed over
+-- if it holds nothing then, none of its files was passed over
 pub record LaneVisited {T : Type 0} (tails : TailWords T) (queue box : ℕ) (when : When) (old new : Laning T) : Type 0 where
   pub runs : LaneRuns tails.numbers tails.told tails.faults queue box when old new
   pub each : new.held ≡ Nothing → AreVisited tails.told runs.keeps.steps old.harvesters new.harvesters
@@ -78,7 +78,7 @@ pub record StoringWasStill {D : Type 0} (disks : DiskWords D) (old new : Storing
   pub ran : KeeperRan disks old new
   pub each : AllByRecursion (λ (t : KeeperTurn). ¬ (IsKeeping t)) ran.turns
 
--- ---- all of them, up to where their passes met
+-- ---- all of them, up to the place where their passes met
 
 -- lanes, workers and the keeper as their passes met: but for these they are so afterwards
 pub record IsAsMet {T W L D : Type 0} (mid new : Crewing T W L D) : Type 0 where

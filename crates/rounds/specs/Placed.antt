@@ -1,5 +1,5 @@
--- Each span is in one place, over any number of rounds (this project's profile): where all that was told is booked as a round
--- begins, it is booked with what this round told as it ends, and each of it is in one place.
+-- Each span is in one place, over any number of rounds (this project's profile): if all that was reported is booked as a round
+-- begins, it is booked with what this round reported as it ends, and each of it is in one place.
 use Rattle.std.specs.Prelude.{◌≡◌, ℕ, List, [], ◌∷◌, ◌++◌}
 use Rattle.lanes.specs.Laning.{Laning}
 use Rattle.lanes.specs.Running.{LaneRuns}

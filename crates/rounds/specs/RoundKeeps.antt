@@ -33,11 +33,11 @@ pub record RoundKeeps {T W L D : Type 0} (words : Words T W L D) (queue : Bounde
   pub at_rest : round.memory ≡ false → round.disk ≡ false → AreAtRest words.disks old.storing → AreAtRest words.disks new.storing
   -- what was collected is noted, in order, or held
   pub collects : Collects old.storing.keeper.now new.storing.keeper.now
-  -- whatever the round found, its lanes may be let go, and its workers and the keeper may end
+  -- whatever the round found, its lanes may be released, and its workers and the keeper may end
   pub able : IsAble words.tails queue.id desk.id new
-  -- what the store has is what was noted up to the last commit, also where the keeper rested
+  -- what the store has is what was noted up to the last commit, also if the keeper rested
   pub stored : Stores old.storing.keeper.now.tracked old.storing.keeper.now.store → Stores new.storing.keeper.now.tracked new.storing.keeper.now.store
-  -- where nothing moved, nothing is left to store
+  -- if nothing moved, nothing is left to store
   pub in_full : round.moved ≡ false → round.memory ≡ false → round.disk ≡ false → IsStoredInFull new.storing.keeper.now
   -- each answer has its cause
   pub causes : RoundCauses words queue desk when old new round
@@ -47,5 +47,5 @@ pub record RoundKeeps {T W L D : Type 0} (words : Words T W L D) (queue : Bounde
   pub slots : begins_of (lanings new.lanes.items) ≡ begins_of (lanings old.lanes.items)
   -- the areas are the same disks
   pub same_objects : SameObjects old.storing new.storing
-  -- and where they told what they hold, they tell it still
+  -- and where they reported what they hold, they report it still
   pub still_tell : StillTell words.disks.contents old.storing new.storing

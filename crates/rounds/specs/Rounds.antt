@@ -49,7 +49,7 @@ pub record OthersRan {T W L : Type 0} (tails : TailWords T) (links : LinkWords L
   pub lanes : Pairs (LaneHasRun tails queue.capacity desk.capacity when) (lanings old.lanes.items) (lanings new.lanes.items)
   pub carriers : Pairs (CarrierHasRun links wires desk.capacity when.now) old.carriers.items new.carriers.items
 
--- and the keeper, where it had to
+-- and the keeper, if it had to
 pub record AllRan {T W L D : Type 0} (words : Words T W L D) (queue : BoundedQueue) (desk : BoundedBox) (when : When) (old new : Crewing T W L D) : Type 0 where
   pub others : OthersRan words.tails words.links words.wires queue desk when (crew_of old) (crew_of new)
   pub keeper : let moved = have_others_moved (lanings new.lanes.items) new.carriers.items in
@@ -92,7 +92,7 @@ pub record RestsNow {T W L D : Type 0} (moved : Bool) (old new : Crewing T W L D
   pub same : new.storing ≡ record old.storing { stored = begun_stored }
   pub without : new.pace.without ≡ min (old.pace.without + 1) (2 ^ 32 - 1)
 
--- the keeper had its turns where nothing else had moved
+-- the keeper had its turns if nothing else had moved
 pub record StoresWhereStill {T W L D : Type 0} (disks : DiskWords D) (old new : Crewing T W L D) : Type 0 where
   pub storing : let moved = have_others_moved (lanings old.lanes.items) old.carriers.items in
       StoresNow disks moved old new ⊎ RestsNow moved old new

@@ -15,7 +15,7 @@ use Rattle.rounds.specs.Words.{DiskWords, LinkWords, TailWords, WireWords}
 use Rattle.rounds.specs.declared.carrier.Carrier.{Carrier}
 use Rattle.rounds.specs.declared.storing.Storing.{Storing}
 
--- a lane has its passes, what it holds may be handed on, and of each harvester it is known what it told
+-- a lane has its passes, what it holds may be handed on, and of each harvester it is known what it reported
 pub record IsLaneReady {T : Type 0} (tails : TailWords T) (queue desk : TableId) (lane : Laning T) : Type 0 where
   pub passes : AreOf queue desk (lane_passes lane)
   pub in_range : IsInRange lane.held
@@ -29,7 +29,7 @@ pub record IsStoringReady {D : Type 0} (desk : TableId) (storing : Storing D) : 
   pub pass : storing.keeper.now.pass.desk ≡ desk
   pub is_open : storing.keeper.now.store.closed ≡ false
 
--- ---- their turns, each as one word
+-- ---- their turns, each under one name
 
 unfoldable pub LaneHasRun : {T : Type 0} → TailWords T → ℕ → ℕ → When → Laning T → Laning T → Type 0
 LaneHasRun tails queue box when old new = LaneRuns tails.numbers tails.told tails.faults queue box when old new

@@ -21,12 +21,12 @@ pub record AreSettledIn {T W L : Type 0} (crew : Crew T W L) (keeper : Keeping) 
   pub collected : AreCollected crew.pace.posted keeper
   pub stored : IsStoredInFull keeper
 
--- how many spans the harvesters of these lanes told
+-- how many spans the harvesters of these lanes reported
 abbrev pub spans_told : {T : Type 0} → List (Laning T) → ℕ
 spans_told [] = 0
 spans_told (lane ∷ lanes) = lane.spans + spans_told lanes
 
--- each span that was told is shipped or dropped, by counts that are not saturated
+-- each span that was reported is shipped or dropped, by counts that are not saturated
 pub record IsEachSettled {T : Type 0} (lanes : List (Laning T)) (keeper : Keeping) : Type 0 where
   pub below : spans_told lanes < 2 ^ 64 - 1
   pub settled : keeper.shipped + keeper.dropped ≡ spans_told lanes

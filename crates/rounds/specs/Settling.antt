@@ -40,7 +40,7 @@ pub record CanHandOn {T : Type 0} (desk : TableId) (lane : Laning T) : Type 0 wh
   pub post : PostsOf desk lane.post
   pub in_range : IsInRange lane.held
 
--- the note was posted, if there was one; it is held on only where the box was full
+-- the note was posted, if there was one; it is held on only if the box was full
 pub record LaneHandedOn {T : Type 0} (box : ℕ) (old new : Laning T) : Type 0 where
   pub posted : List Note
   pub notes_are : notes_in old.held ≡ posted ++ notes_in new.held
@@ -76,7 +76,7 @@ pub record Settles {T W L D : Type 0} (words : Words T W L D) (queue : BoundedQu
 
 -- ---- what it keeps
 
--- what is known of how many notes were posted is what the passes tell
+-- what is known of how many notes were posted is what the passes say
 abbrev pub ArePostsCounted : {T W L : Type 0} → Crew T W L → Type 0
 ArePostsCounted crew = crew.pace.posted ≡ posted_in crew
 
@@ -87,7 +87,7 @@ pub record KeepsFiles {T : Type 0} (old new : Laning T) : Type 0 where
   pub spans : new.spans ≡ old.spans
   pub tally : new.tally ≡ old.tally
 
--- where all that was told is booked before, it is booked afterwards, and each of it is in one place; nothing more is told
+-- if all that was reported is booked before, it is booked afterwards, and each of it is in one place; nothing more is reported
 pub record IsPlacedOnceSettled {T W L D : Type 0} (words : Words T W L D) (told : Told) (new : Crewing T W L D) : Type 0 where
   -- what was acknowledged by now
   pub acknowledged : List Heard
@@ -110,7 +110,7 @@ pub record SettlingKeeps {T W L D : Type 0} (words : Words T W L D) (queue : Bou
   pub at_rest : round.memory ≡ false → round.disk ≡ false → AreAtRest words.disks old.storing → AreAtRest words.disks new.storing
   -- what was collected is noted, in order, or held
   pub collects : Collects old.storing.keeper.now new.storing.keeper.now
-  -- whatever was found, lanes may be let go, and workers and the keeper may end
+  -- whatever was found, lanes may be released, and workers and the keeper may end
   pub able : IsAble words.tails queue.id desk.id new
   -- what the store has is what was noted up to the last commit
   pub stored : Stores old.storing.keeper.now.tracked old.storing.keeper.now.store → Stores new.storing.keeper.now.tracked new.storing.keeper.now.store
@@ -124,5 +124,5 @@ pub record SettlingKeeps {T W L D : Type 0} (words : Words T W L D) (queue : Bou
   pub slots : begins_of (lanings new.lanes.items) ≡ begins_of (lanings old.lanes.items)
   -- the areas are the same disks
   pub same_objects : SameObjects old.storing new.storing
-  -- and where they told what they hold, they tell it still
+  -- and where they reported what they hold, they report it still
   pub still_tell : StillTell words.disks.contents old.storing new.storing

@@ -1,4 +1,4 @@
--- What the objects of a round tell (this project's profile): the words in which the contracts of their calls speak.
+-- What the objects of a round report (this project's profile): the names in which the contracts of their calls speak.
 use Rattle.std.specs.Prelude.{ℕ, List, Option}
 use Rattle.outside.specs.Tails.{TailHistory}
 use Rattle.outside.specs.Talks.{Talk}

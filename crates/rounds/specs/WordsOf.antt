@@ -1,4 +1,4 @@
--- The words of the objects that a call is lent, from the members of their traits: `T.Tail` in a clause, `g.T.Tail` in a proof.
+-- The names for the objects that a call is lent, from the members of their traits: `T.Tail` in a clause, `g.T.Tail` in a proof.
 use Rattle.outside.specs.declared.disk.Disk.{Ghosts as DiskGhosts}
 use Rattle.outside.specs.declared.link.Link.{Ghosts as LinkGhosts}
 use Rattle.outside.specs.declared.tail.Tail.{Ghosts as TailGhosts}

@@ -12,13 +12,13 @@ use wire_base::Slot;
 /// What a round came to.
 #[derive(Clone, Copy, Debug, PartialEq, Eq)]
 pub struct Round {
-    /// Something was read, told, met, handed on, sent, received or stored.
+    /// Something was read, reported, found, handed on, sent, received or stored.
     pub moved: bool,
     /// Some turn of a file or of the keeper found no memory.
     pub memory: bool,
     /// A disk failed.
     pub disk: bool,
-    /// How many turns met a read fault. The count saturates at 2^64 - 1.
+    /// How many turns hit a read fault. The count saturates at 2^64 - 1.
     pub tail_faults: u64,
     /// The first file whose last epoch was over.
     pub epochs: Option<Slot>,

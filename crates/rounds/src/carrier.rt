@@ -33,7 +33,7 @@ impl Carried {
     }
 }
 
-/// A worker, and the wire that it alone uses.
+/// A worker, and the wire that only it uses.
 pub struct Carrier<W, L> {
     pub worker: Worker<L>,
     pub wire: W,

@@ -31,7 +31,7 @@ pub(crate) fn gather_carriers<L: Link, W: Wire<Link = L>>(
     (take, post)
 }
 
-/// Joins the passes of further workers behind these.
+/// Joins the passes of further workers after these.
 fn gather_more<L: Link, W: Wire<Link = L>>(
     outlets: Outlets<'_>,
     carriers: &mut [Carrier<W, L>],

@@ -24,7 +24,7 @@ pub struct Pace {
 }
 
 impl Pace {
-    /// Whether the keeper has turns beside the others: where three quarters of the box's room are taken, and where it has gone
+    /// Whether the keeper has turns beside the others: if three quarters of the box's room are taken, and if it has gone
     /// without for 32 rounds. A commit is two syncs, and writes a row of each file that came on, so a busy round does not wait for
     /// the disk.
     pub(crate) fn is_due(&self) -> bool
@@ -34,7 +34,7 @@ impl Pace {
         self.without >= MAX_ROUNDS_WITHOUT || self.boxed >= u64::from(self.room / 4 * 3)
     }
 
-    /// Whether as many notes were collected as had been posted; where 2^64 - 1 were posted, it is not known.
+    /// Whether as many notes were collected as had been posted; if 2^64 - 1 were posted, it is not known.
     pub(crate) fn are_collected(&self, keeper: &Keeper) -> bool
         ensures all { OnTrue result (AreCollected self.now.posted keeper.now) }
         ensures work { OnFalse result (¬ (AreCollected self.now.posted keeper.now)) }
@@ -51,7 +51,7 @@ pub struct Crew<T, W, L> {
 }
 
 impl<T: Tail, L: Link, W: Wire<Link = L>> Crew<T, W, L> {
-    /// The box has room for so many notes, and is empty.
+    /// The box has room for this many notes, and is empty.
     pub fn new(lanes: Vec<Lane<T>>, carriers: Vec<Carrier<W, L>>, room: u32) -> Crew<T, W, L>
         ensures { result ≡ record {
           lanes = lanes;

@@ -19,7 +19,7 @@ use settle_box::PostPass;
 use std::alloc::Global;
 use wire_base::NoMemory;
 
-/// So many lanes without harvesters, among which these passes are parted. `Err` means out of memory.
+/// This many lanes without harvesters, among which these passes are parted. `Err` means out of memory.
 pub fn lanes_of<T: Tail>(
     alloc: Global,
     outlets: Outlets<'_>,
@@ -51,7 +51,7 @@ pub fn lanes_of<T: Tail>(
     Ok(lanes)
 }
 
-/// One more lane behind the others, with these passes.
+/// One more lane after the others, with these passes.
 fn add_lane<T: Tail>(alloc: Global, put: PutPass, post: PostPass, lanes: &mut Vec<Lane<T>>)
     requires room { vec_len lanes.old < vec_capacity lanes.old }
     ensures adds { AddsLane put post (lanings lanes.old.items) (lanings lanes.new.items) }
@@ -61,7 +61,7 @@ fn add_lane<T: Tail>(alloc: Global, put: PutPass, post: PostPass, lanes: &mut Ve
     lanes.push_reserved(Lane::new(alloc, put, post));
 }
 
-/// One more lane behind the others, with a part of each of these passes.
+/// One more lane after the others, with a part of each of these passes.
 fn part_lane<T: Tail>(
     alloc: Global,
     outlets: Outlets<'_>,
@@ -90,7 +90,7 @@ fn part_lane<T: Tail>(
     add_lane(alloc, its_put, its_post, lanes);
 }
 
-/// A worker for each of the first wires, as many as the rule tells, among which these passes are parted. `Err` means out
+/// A worker for each of the first wires, as many as the rule says, among which these passes are parted. `Err` means out
 /// of memory; then all wires are back in their order.
 pub fn carriers_of<L: Link, W: Wire<Link = L>>(
     alloc: Global,
@@ -182,7 +182,7 @@ fn fill<L: Link, W: Wire<Link = L>>(
     add_carrier(alloc, made - 1, last, rule, wires, carriers)
 }
 
-/// One more worker behind the others, with the first of these wires; whether there was memory for it.
+/// One more worker after the others, with the first of these wires; whether there was memory for it.
 fn add_carrier<L: Link, W: Wire<Link = L>>(
     alloc: Global,
     number: u32,
@@ -216,7 +216,7 @@ fn add_carrier<L: Link, W: Wire<Link = L>>(
     }
 }
 
-/// Lets workers go that have no link, and puts their wires before the others.
+/// Releases workers that have no link, and puts their wires before the others.
 fn give_back<L: Link, W: Wire<Link = L>>(
     rule: &OutputRule,
     mut carriers: Vec<Carrier<W, L>>,

@@ -54,8 +54,8 @@ pub(crate) fn run_workers_in_turn<A, B, S: Task<A, B>>(task: &S, workers: &mut [
     run_workers_in_turn(task, workers);
 }
 
-/// Runs lanes and workers, each lane that has work in a thread of its own where one can be made, and each worker in that of a
-/// lane, behind it, so that it finds there what the lane gave.
+/// Runs lanes and workers, each lane that has work in a thread of its own if one can be made, and each worker in that of a
+/// lane, after it, so that it finds there what the lane gave.
 #[cycle(halves)]
 pub(crate) fn run_parts<A: Send, B: Send, S: Task<A, B> + Sync, R: Threads + Sync>(
     rt: &R,
@@ -82,7 +82,7 @@ pub(crate) fn run_parts<A: Send, B: Send, S: Task<A, B> + Sync, R: Threads + Syn
     run_halves(rt, task, lanes, workers, more_lanes, more_workers);
 }
 
-/// Runs lanes and workers in a new thread, where one can be made, and more of them in this one.
+/// Runs lanes and workers in a new thread, if one can be made, and more of them in this one.
 #[cycle(halves)]
 fn run_halves<A: Send, B: Send, S: Task<A, B> + Sync, R: Threads + Sync>(
     rt: &R,

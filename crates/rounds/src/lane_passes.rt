@@ -31,7 +31,7 @@ pub(crate) fn gather_lanes<T: Tail>(
     (put, post)
 }
 
-/// Joins the passes of further lanes behind these.
+/// Joins the passes of further lanes after these.
 fn gather_more<T: Tail>(
     outlets: Outlets<'_>,
     lanes: &mut [Lane<T>],

@@ -1,13 +1,13 @@
 //! One round of lanes, workers and the keeper.
 //!
-//! Each lane runs in a thread of its own, with a worker behind it, and the keeper in another one; but
-//! beside one worker alone the keeper has its turns first and the worker has its turns last, in the
+//! Each lane runs in a thread of its own, with a worker after it, and the keeper in another one; but
+//! beside a single worker the keeper has its turns first and the worker has its turns last, in the
 //! thread that asked. When they have met again, the passes of the queue and of the box are joined and
 //! compared with what queue and box hold, and are parted again. So as a round ends it is known where
-//! each event is that was told.
+//! each event is that was reported.
 //!
-//! As a run ends, its files are let go, and `settle` is called until `is_settled`: what is still held of
-//! notes is posted and stored. `is_done` tells whether each span that was told is shipped or dropped.
+//! As a run ends, its files are closed, and `settle` is called until `is_settled`: what is still held of
+//! notes is posted and stored. `is_done` says whether each span that was reported is shipped or dropped.
 #![tactic(auto)]
 
 mod answer;

@@ -20,8 +20,8 @@ use std::sync::Wait;
 use std::thread::Threads;
 
 impl<T: Tail + Send, L: Link + Send, W: Wire<Link = L> + Send> Crew<T, W, L> {
-    /// One round. Lanes and the keeper have their turns at once, each in a thread of its own where one can be made, and each
-    /// worker in the thread of a lane, behind it; but one worker alone has its turns behind all lanes, and the keeper beside it
+    /// One round. Lanes and the keeper have their turns at once, each in a thread of its own if one can be made, and each
+    /// worker in the thread of a lane, after it; but a single worker has its turns after all lanes, and the keeper beside it
     /// before them. Then all passes of the queue and the box meet, and are parted again.
     pub fn round<D: Disk + Send, R: Threads + Wait + Sync>(
         &mut self,
@@ -153,7 +153,7 @@ impl<T: Tail + Send, L: Link + Send, W: Wire<Link = L> + Send> Crew<T, W, L> {
         );
     }
 
-    /// The keeper's turns, where nothing else moved.
+    /// The keeper's turns, if nothing else moved.
     fn store_where_still<D: Disk, R: Wait>(
         &mut self,
         rt: &R,

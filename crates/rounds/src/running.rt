@@ -85,7 +85,7 @@ impl<'a, 'b, T: Tail + Send, L: Link + Send, W: Wire<Link = L> + Send, R: Wait +
     }
 }
 
-/// Runs lanes and workers: two workers or more each in the thread of a lane, behind it, and one alone behind all lanes.
+/// Runs lanes and workers: two workers or more each in the thread of a lane, after it, and a single one after all lanes.
 pub(crate) fn run_both<
     T: Tail + Send,
     L: Link + Send,
@@ -115,7 +115,7 @@ pub(crate) fn run_both<
     run_parts(rt, &turns, lanes, carriers);
 }
 
-/// Runs lanes, workers and the keeper: the keeper beside two workers or more, at once, and before one alone.
+/// Runs lanes, workers and the keeper: the keeper beside two workers or more, at once, and before a single one.
 pub(crate) fn run_all<
     T: Tail + Send,
     L: Link + Send,

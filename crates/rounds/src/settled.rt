@@ -14,7 +14,7 @@ use outside::{Link, Tail, Wire};
 
 impl<T: Tail, L: Link, W: Wire<Link = L>> Crew<T, W, L> {
     /// Whether nothing is left to be settled: no note is held or owed, as many were collected as had been posted as the passes
-    /// met last, and all that was collected is stored. Where 2^64 - 1 notes were posted, it is not known.
+    /// met last, and all that was collected is stored. If 2^64 - 1 notes were posted, it is not known.
     pub fn is_settled(&self, keeper: &Keeper) -> bool
         ensures settled { OnTrue result (AreSettledIn self.now keeper.now) }
         ensures work { OnFalse result (¬ (AreSettledIn self.now keeper.now)) }
@@ -28,8 +28,8 @@ impl<T: Tail, L: Link, W: Wire<Link = L>> Crew<T, W, L> {
         self.pace.are_collected(keeper) && keeper.is_stored_in_full()
     }
 
-    /// Whether all is done: no lane holds anything, no further turn of a file would find anything, each span that was told is
-    /// shipped or dropped, and all of that is stored. Where 2^64 - 1 spans were told, it is not known.
+    /// Whether all is done: no lane holds anything, no further turn of a file would find anything, each span that was reported is
+    /// shipped or dropped, and all of that is stored. If 2^64 - 1 spans were told, it is not known.
     pub fn is_done(&self, keeper: &Keeper) -> bool
         ensures done { OnTrue result (IsDoneIn self.now keeper.now) }
         ensures work { OnFalse result (¬ (IsDoneIn self.now keeper.now)) }
@@ -80,7 +80,7 @@ fn are_done<T: Tail>(lanes: &[Lane<T>]) -> bool
     }
 }
 
-/// How many spans were told in these lanes. The count saturates at 2^64 - 1.
+/// How many spans were reported in these lanes. The count saturates at 2^64 - 1.
 fn spans_told<T: Tail>(lanes: &[Lane<T>]) -> u64
     ensures { result ≡ min (spans_told (lanings lanes.now)) (2 ^ 64 - 1) }
 {

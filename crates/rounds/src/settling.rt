@@ -21,9 +21,9 @@ use std::alloc::Global;
 use std::sync::Wait;
 
 impl<T: Tail + Send, L: Link + Send, W: Wire<Link = L> + Send> Crew<T, W, L> {
-    /// The last steps of a run, once its files are let go. What lanes and workers still hold of notes is posted, the keeper has
+    /// The last steps of a run, once its files are closed. What lanes and workers still hold of notes is posted, the keeper has
     /// its turns, and then all passes meet and are parted again. Nothing is read, sent or received. It is called until
-    /// `is_settled`; the answer tells of the keeper's turns alone.
+    /// `is_settled`; the answer is only about the keeper's turns.
     pub fn settle<D: Disk, R: Wait>(
         &mut self,
         rt: &R,

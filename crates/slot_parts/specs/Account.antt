@@ -62,37 +62,37 @@ pub record IsShownBy (run : Run) (one : SlotAccount) (opening : ℕ) (event : To
 abbrev pub IsShownPart : Run → SlotAccount → Part → Type 0
 IsShownPart run one part = AllByRecursion (IsShownBy run one part.opening) part.told
 
--- of what was there as it was opened the tail tells such looks, and its reads that count stand where it read up to
+-- of what was there as it was opened the tail reports such looks, and its reads that count are where it read up to
 pub record IsLookedTail (file : File) (tail : FollowedTail) : Type 0 where
   pub begun : Sight
   pub looks : AreLooks file begun tail.looks
   pub on : AllByRecursion (λ segment. ReadOn (steps_in segment)) (segments_of tail.place tail.looks)
 
--- the parts are what the segments of the tails told, in order
+-- the parts are what the segments of the tails reported, in order
 abbrev pub ArePartsOf : Following → List Part → Type 0
 ArePartsOf following parts = map reading_of parts ≡ flat_map readings_of following.tails
 
 -- ---- why each part goes on where it does
 
--- of a file that was told up to this place of this epoch and then listed with this size
+-- of a file that was reported up to this place of this epoch and then listed with this size
 abbrev pub goes_on : ℕ → ℕ → ℕ → Start
 goes_on epoch place size =
     if nat_le place size then record { epoch = epoch; base = place }
     else record { epoch = epoch + 1; base = 0 }
 
--- its tail was opened where the file was listed with no lesser size than the place from which it goes on
+-- its tail was opened when the file was listed with no lesser size than the place from which it goes on
 pub record StaysIn (run : Run) (key : List ℕ) (epoch place : ℕ) (part : Part) : Type 0 where
   pub same_epoch : part.epoch ≡ epoch
   pub from_there : part.segment.place ≡ place
   pub no_fall : part.segment.fall ≡ None
   pub listed : WasListedWith run key part.opening (λ size. place ≤ size)
 
--- its tail was opened where the file was listed with a lesser size
+-- its tail was opened when the file was listed with a lesser size
 pub record OpensNext (run : Run) (key : List ℕ) (place : ℕ) (part : Part) : Type 0 where
   pub no_fall : part.segment.fall ≡ None
   pub listed : WasListedWith run key part.opening (λ size. size < place)
 
--- so, or the length fell in the tail that told the part before
+-- the same, or the length fell in the tail that reported the part before
 pub record RisesIn (run : Run) (key : List ℕ) (epoch place : ℕ) (part : Part) : Type 0 where
   pub next_epoch : part.epoch ≡ epoch + 1
   pub from_the_first_byte : part.segment.place ≡ 0
@@ -101,12 +101,12 @@ pub record RisesIn (run : Run) (key : List ℕ) (epoch place : ℕ) (part : Part
 abbrev pub FollowsOn : Run → List ℕ → ℕ → ℕ → Part → Type 0
 FollowsOn run key epoch place part = StaysIn run key epoch place part ⊎ RisesIn run key epoch place part
 
--- the parts of a slot, where the file is told up to this place of this epoch
+-- the parts of a slot, if the file is reported up to this place of this epoch
 abbrev pub FollowOn : Run → List ℕ → ℕ → ℕ → List Part → Type 0
 FollowOn run key epoch place [] = Unit {0}
 FollowOn run key epoch place (part ∷ parts) = FollowsOn run key epoch place part × FollowOn run key part.epoch (told_to part) parts
 
--- the epoch and the place up to which the file is told behind these parts
+-- the epoch and the place up to which the file is reported after these parts
 abbrev pub epoch_after : ℕ → List Part → ℕ
 epoch_after epoch [] = epoch
 epoch_after epoch (part ∷ parts) = epoch_after part.epoch parts

@@ -31,7 +31,7 @@ pub record TailedSlot : Type 0 where
 abbrev pub account_by_tails : TailedSlot → SlotAccount
 account_by_tails slot = slot_account slot.placed slot.following slot.number slot.changed (parts_in slot.rules.events slot.tails)
 
--- each tail goes on behind those before it, told what its looks read, and by a path that the run shows
+-- each tail goes on after those before it, reported what its looks read, and by a path that the run shows
 pub record IsTailedSo (slot : TailedSlot) : Type 0 where
   pub in_range : IsGroupRule slot.rules.events
   pub file_is : slice_get slot.run.trace.files slot.number ≡ Some slot.file
@@ -41,7 +41,7 @@ pub record IsTailedSo (slot : TailedSlot) : Type 0 where
   pub looked : AllByRecursion (IsLookedTail slot.file) slot.following.tails
   pub shown : AllByRecursion (IsShownPart slot.run (account_by_tails slot)) (parts_in slot.rules.events slot.tails)
 
--- its epochs are those of the slot, and where truncations are seen, each of them is told of one life
+-- its epochs are those of the slot, and if truncations are seen, each of them is reported of one life
 pub record IsToldByTails (slot : TailedSlot) : Type 0 where
   pub epochs : AreEpochs slot.run (account_by_tails slot)
   pub told : SeesTruncationsOf slot.following → AllByRecursion (IsEpochTold slot.run slot.rules (account_by_tails slot)) (account_by_tails slot).epochs

@@ -1,5 +1,5 @@
 -- The tails that followed the file of a slot, one by one, each with the history of its harvester (Filebeat reference, filestream
--- input; this project's profile): a tail begins where the parts before it told up to, by the size with which the file was
+-- input; this project's profile): a tail begins where the parts before it ended, by the size with which the file was
 -- listed last before it was opened.
 use Rattle.std.specs.Prelude.{◌≡◌, ℕ, ◌<◌, ◌≤◌, true, List, [], ◌∷◌, map, flat_map, length}
 use Rattle.std.specs.List.{AllByRecursion}
@@ -18,7 +18,7 @@ use Rattle.slot_parts.specs.Account.{epoch_after, goes_on, place_after}
 use Rattle.slot_parts.specs.Parts.{Part}
 use Rattle.slot_parts.specs.Tellings.{AreNumberedFrom, AreReadFirst, parts_of, tellings_in}
 
--- the looks of the tail up to where its file had another key
+-- the looks of the tail up to the place where its file had another key
 pub record ToldTail : Type 0 where
   pub tail : FollowedTail
   pub history : History
@@ -35,7 +35,7 @@ parts_in rule tails = flat_map (parts_by rule) tails
 abbrev pub started : ℕ → ℕ → Start
 started epoch base = record { epoch = epoch; base = base }
 
--- its history begins where the file was told up to, by the size with which it was listed last
+-- its history begins where the file was reported up to, by the size with which it was listed last
 pub record GoesOnBehind (run : Run) (key : List ℕ) (epoch place : ℕ) (one : ToldTail) : Type 0 where
   pub size : ℕ
   pub listed : WasListedWith run key one.tail.opening (λ n. n ≡ size)
@@ -46,14 +46,14 @@ pub record GoesOnBehind (run : Run) (key : List ℕ) (epoch place : ℕ) (one : 
   pub numbered : AreNumberedFrom first.epoch later
   pub few : length (tellings_in one.history) ≤ length (segments_by one)
 
--- each behind those before it, where the file is told up to this place of this epoch
+-- each after those before it, if the file is reported up to this place of this epoch
 abbrev pub GoOnBehind : Run → List ℕ → GroupRule → ℕ → ℕ → List ToldTail → Type 0
 GoOnBehind run key rule epoch place [] = Unit {0}
 GoOnBehind run key rule epoch place (one ∷ tails) =
     GoesOnBehind run key epoch place one
     × GoOnBehind run key rule (epoch_after epoch (parts_by rule one)) (place_after place (parts_by rule one)) tails
 
--- what it told is told of what its segments read, each flush where it may be
+-- what it reported is of what its segments read, each flush where it may be
 pub record IsToldTail (rules : Rules) (file : File) (MayEnd : ℕ → Type 0) (HasWaited : Type 0) (one : ToldTail) : Type 0 where
   pub read : AreReadFirst one.history file (tellings_in one.history) (segments_by one)
   pub tells : AllByRecursion (IsTelling rules) (tellings_in one.history)

@@ -1,4 +1,4 @@
--- What one epoch of a harvester's history told, as a part of its slot.
+-- What one epoch of a harvester's history reported, as a part of its slot.
 use Rattle.std.specs.Prelude.{◌≡◌, ℕ, ◌+◌, List, [], ◌∷◌, ◌++◌}
 use Rattle.event_tree.specs.declared.group_rule.GroupRule.{GroupRule}
 use Rattle.event_tree.specs.declared.group_rule.GroupRule.TheVariants.{Count, Pattern, Single}
@@ -15,7 +15,7 @@ licences_by (Single message_max_bytes) licences = []
 licences_by (Count count_lines max_lines timeout skip_newline message_max_bytes) licences = licences
 licences_by (Pattern pattern negate side flush max_lines timeout skip_newline message_max_bytes) licences = licences
 
--- nor where nothing was told
+-- nor if nothing was reported
 abbrev pub licences_where : List ToldEvent → List ℕ → List ℕ
 licences_where [] licences = []
 licences_where (one ∷ told) licences = licences
@@ -29,7 +29,7 @@ part_of opening rule telling segment = record {
   told = telling.told;
 }
 
--- of a segment by which nothing was told
+-- of a segment by which nothing was reported
 abbrev pub untold_part : ℕ → ℕ → Segment → Part
 untold_part opening epoch segment = record { opening = opening; epoch = epoch; segment = segment; licences = []; told = [] }
 
@@ -37,7 +37,7 @@ abbrev pub untold_parts : ℕ → ℕ → List Segment → List Part
 untold_parts opening before [] = []
 untold_parts opening before (segment ∷ segments) = untold_part opening (before + 1) segment ∷ untold_parts opening (before + 1) segments
 
--- the parts of one tail: a segment for each epoch that was told, and those by which nothing was told
+-- the parts of one tail: a segment for each epoch that was reported, and those by which nothing was reported
 abbrev pub parts_of : ℕ → GroupRule → ℕ → List Telling → List Segment → List Part
 parts_of opening rule before [] segments = untold_parts opening before segments
 parts_of opening rule before (telling ∷ tellings) [] = []
@@ -55,7 +55,7 @@ AreReadFirst h file [] segments = Unit {0}
 AreReadFirst h file (telling ∷ tellings) [] = ⊥
 AreReadFirst h file (telling ∷ tellings) (segment ∷ segments) = IsReadBy h file telling segment × AreReadFirst h file tellings segments
 
--- each one behind this epoch is the next one, and is told from the file's first byte on
+-- each one after this epoch is the next one, and is reported from the file's first byte on
 abbrev pub AreNumberedFrom : ℕ → List Telling → Type 0
 AreNumberedFrom before [] = Unit {0}
 AreNumberedFrom before (telling ∷ later) = (telling.epoch ≡ before + 1) × (telling.start ≡ 0) × AreNumberedFrom (before + 1) later

@@ -1,4 +1,4 @@
--- Where an event that no line has ended may be flushed (Filebeat reference, `close.reader.on_eof` and multiline,
+-- When an event that no line has ended may be flushed (Filebeat reference, `close.reader.on_eof` and multiline,
 -- `timeout`; this project's profile). It ends at the last complete line up to the place where the file's end was found,
 -- or up to which was read when its timeout had passed.
 use Rattle.std.specs.Prelude.{◌≡◌, ◌⊎◌, ℕ, ◌+◌, ◌≤◌, List, ◌∷◌, ◌++◌, take}
@@ -8,7 +8,7 @@ use Rattle.file_looks.specs.Segment.{Segment}
 use Rattle.multiline_core.specs.Message.{row_end}
 use Rattle.multiline_core.specs.Partition.{lines_from}
 
--- the end of the last complete line of the first so many bytes, lines counted from the start on; the start where there is
+-- the end of the last complete line of this many of the first bytes, lines counted from the start on; the start if there is
 -- none
 abbrev pub whole_lines_end : LineRule → List ℕ → ℕ → ℕ → ℕ
 whole_lines_end lines life start place = row_end start (lines_from lines (take place life) start)
@@ -25,12 +25,12 @@ pub record EndsWhatWasRead (lines : LineRule) (life : List ℕ) (start : ℕ) (s
   pub had_read : HadReadTo segment place
   pub last : whole_lines_end lines life start place ≡ end
 
--- by the looks of this segment, where the file may be ended, or where the timeout has passed
+-- by the looks of this segment, if the file may be ended, or if the timeout has passed
 abbrev pub IsLicensed : LineRule → List ℕ → ℕ → Segment → Type 0 → Type 0 → ℕ → Type 0
 IsLicensed lines life start segment MayEnd HasWaited end =
     (MayEnd × EndsAtEndLook lines life start segment end) ⊎ (HasWaited × EndsWhatWasRead lines life start segment end)
 
--- two of the moments, the later one behind the earlier, are at least so many milliseconds apart
+-- two of the moments, the later one after the earlier, are at least this many milliseconds apart
 pub record LieApart (moments : List ℕ) (distance : ℕ) : Type 0 where
   pub before : List ℕ
   pub earlier : ℕ

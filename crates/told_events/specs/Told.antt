@@ -1,6 +1,6 @@
--- Told events (Filebeat reference, filestream input and multiline messages; this project's profile): spans that adjoin
--- from a place of a life on, each an event by rule or flushed where it may be, and each with the fate that the rules give
--- it, by the path that was told of it and the moment at which it was closed.
+-- Reported events (Filebeat reference, filestream input and multiline messages; this project's profile): spans that adjoin
+-- from a place of a life on, each an event by rule or flushed when it may be, and each with the fate that the rules give
+-- it, by the path that was reported of it and the moment at which it was closed.
 use Rattle.std.specs.Prelude.{◌≡◌, ℕ, List, ◌++◌, Contains, map}
 use Rattle.std.specs.List.{AllByRecursion}
 use Rattle.line_cutter.specs.declared.line.Line.{Line}
@@ -28,7 +28,7 @@ pub record HasFate (rules : Rules) (life : List ℕ) (one : ToldEvent) : Type 0 
   pub ends : row_end one.span.start row ≡ one.span.end
   pub is : one.fate ≡ fate_of rules one.path one.span.start (message_of rules.events row) one.now
 
--- the events adjoin from the start on; where one is flushed, it ends at one of these places
+-- the events adjoin from the start on; if one is flushed, it ends at one of these places
 pub record AreTold (rules : Rules) (licences : List ℕ) (life : List ℕ) (start : ℕ) (told : List ToldEvent) : Type 0 where
   pub partition : IsPartition rules.lines rules.events (λ place. Contains licences place) life start (spans_of told)
   pub fates : AllByRecursion (HasFate rules life) told

@@ -50,7 +50,7 @@ pub fn fates_without_rules()
         }) path start message now ≡ fate_of_payload (payload_of_event path start message now) }
 {}
 
-/// The spans of told events adjoin from their start on, and none is empty. A law; it computes nothing.
+/// The spans of reported events adjoin from their start on, and none is empty. A law; it computes nothing.
 pub fn told_events_adjoin()
     ensures { (rules : Rules) (licences life : List ℕ) (start : ℕ) (told : List ToldEvent) →
         IsGroupRule rules.events → AreTold rules licences life start told →
@@ -59,8 +59,8 @@ pub fn told_events_adjoin()
     spans_adjoin();
 }
 
-/// Events that are told behind others, from where the last of these ends, are told with them; the first of told events are
-/// told, and so are the others from there on. A law; it computes nothing.
+/// Events that are reported after others, from where the last of these ends, are reported with them; the first of reported events are
+/// reported, and so are the others from there on. A law; it computes nothing.
 pub fn told_events_go_on()
     ensures behind { (rules : Rules) (licences life : List ℕ) (start : ℕ)
         (told more : List ToldEvent) → AreTold rules licences life start told →
@@ -74,7 +74,7 @@ pub fn told_events_go_on()
         AreTold rules licences life (last_end start (spans_of told)) more }
 {}
 
-/// Told events stay told where more of them may be flushed. A law; it computes nothing.
+/// Reported events stay reported if more of them may be flushed. A law; it computes nothing.
 pub fn told_events_stay_told()
     ensures { (rules : Rules) (licences more life : List ℕ) (start : ℕ) (told : List ToldEvent) →
         All (Contains more) licences → AreTold rules licences life start told →
