@@ -32,7 +32,7 @@ module _ (run : Run) where
   have_slots [] each = tt
   have_slots (file ∷ files) each = (each.0.told.slot, have_slots files each.1)
 
-  -- no parcel was told twice
+  -- no parcel was reported twice
   pub told_once : (files : List Filed) → AreFollowedFiles run files → AreOnce same_parcel (flat_map parcels_told (turned_of files))
   told_once files are =
       parcels_are_once (turned_of files) (turned_apart files are.slots (have_slots files are.each)) (are_in_epochs files are.each)
@@ -42,7 +42,7 @@ module _ (run : Run) where
     slots_have_epochs [] each = tt
     slots_have_epochs (file ∷ files) each = (slot_has_epochs run placed file each.0, slots_have_epochs files each.1)
 
-    -- where it left, its row went rightly
+    -- if it left, its row went rightly
     abbrev pub WentWhereLeft : Filed → Type 0
     WentWhereLeft file = IfSome (left_in file) (WentBy run run.trace.wires file.opened.rule (account_of placed file))
 

@@ -1,4 +1,4 @@
--- What the talks of workers' wires acknowledged is what files told, and nothing of it twice.
+-- What the talks of workers' wires acknowledged is what files reported, and nothing of it twice.
 use Rattle.std.proofs.Common.{List, ◌++◌, Contains, arith}
 use Rattle.std.specs.List.{flat_map}
 use Rattle.pass_sums.proofs.Weights.{weigh-append}
@@ -18,7 +18,7 @@ module _ (files : List Turned) (workers : List Taken) (collected : List Note) (f
   abbrev pub elsewhere_in : List Parcel
   elsewhere_in = fits.parcels ++ carried_in workers
 
-  -- what files told is acknowledged or elsewhere
+  -- what files reported is acknowledged or elsewhere
   pub often_told : AsOften (flat_map parcels_told files) (elsewhere_in ++ acknowledged_in workers)
   often_told h =
       let issued = fits.issued_are h in

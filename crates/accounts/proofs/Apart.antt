@@ -109,7 +109,7 @@ epochs_apart epoch base (first ∷ later) are = (
   numbers_apart epoch later are.2,
 )
 
--- in each epoch the told spans adjoin from its start on
+-- in each epoch the reported spans adjoin from its start on
 abbrev pub EachAdjoins : List Telling → Type 0
 EachAdjoins tellings = AllByRecursion (λ (telling : Telling). Adjoin telling.start (spans_of telling.told)) tellings
 

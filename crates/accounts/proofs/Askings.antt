@@ -1,4 +1,4 @@
--- What an asking for a file's key tells: its looks only read, and where the identity does not read the file, each asking gives what the
+-- What an asking for a file's key reports: its looks only read, and where the identity does not read the file, each asking gives what the
 -- first one gave.
 use Rattle.std.proofs.Common.{◌≡◌, ℕ, zero, suc, ◌+◌, ◌-◌, List, [], ◌∷◌, ◌++◌, refl, sym, subst, ◌∙◌}
 use Rattle.std.specs.List.{AllByRecursion}
@@ -37,7 +37,7 @@ asking_reads Path looks is = subst OnlyRead (sym is) tt
 
 -- ---- the key
 
--- a file that gave its key has it behind any other looks
+-- a file that gave its key has it after any other looks
 pub still_has_key : (rule : InputRule) (key path : List ℕ) (file : File) (asked behind : List Look) → GivesKey rule key path file asked → StillHasKey rule key path file (asked ++ behind)
 still_has_key rule key path file asked behind gave =
     record { before = []; asked = asked; behind = behind; looks_are = refl; cut = none_cut rule.file_identity; gives = gave }
@@ -47,14 +47,14 @@ asks_nothing (Fingerprint offset count) named = absurd named
 asks_nothing Native named = refl
 asks_nothing Path named = refl
 
--- where the identity does not read the file, no look gives its key
+-- if the identity does not read the file, no look gives its key
 given_by_none : (identity : IdentityRule) (id path : List ℕ) (file : File) (looks : List Look) → IsNoFingerprint identity →
     given_key id identity path file [] ≡ given_key id identity path file looks
 given_by_none (Fingerprint offset count) id path file looks named = absurd named
 given_by_none Native id path file looks named = refl
 given_by_none Path id path file looks named = refl
 
--- so a file that is known without being read still has its key, whatever was told behind
+-- so a file that is known without being read still has its key, whatever was reported after
 pub still_has_name : (rule : InputRule) (key path : List ℕ) (file : File) (asked looks : List Look) → IsNoFingerprint rule.file_identity →
     GivesKey rule key path file asked → StillHasKey rule key path file looks
 still_has_name rule key path file asked looks named gave =

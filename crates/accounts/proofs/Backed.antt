@@ -1,4 +1,4 @@
--- The notes of a run are backed by the account of its files with the slots of hidden rows behind it.
+-- The notes of a run are backed by the account of its files with the slots of hidden rows after it.
 use Rattle.std.proofs.Common.{◌≡◌, ◌⊎◌, inl, inr, ◌==◌, List, [], Contains, map, Option, Some, None, IfSome, refl, sym, ap, subst, ◌∙◌, arith}
 use Rattle.std.specs.List.{AllByRecursion}
 use Rattle.std.proofs.lemmas.Bool.{cond-true, eq-eqb}

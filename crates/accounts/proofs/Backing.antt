@@ -56,7 +56,7 @@ module _ (placed : Parcel → Option Place) where
           (ne_eqb (slot_in first) (slot_in file) (λ same. apart.0 (subst (λ (n : ℕ). Contains (map slot_in files) n) (sym same) (mapped_there slot_in files file later))))
           ∙ further later
 
-  -- an event of the epoch stands in it, with the place of its parcel
+  -- an event of the epoch is in it, with the place of its parcel
   pub record HasEvent (slot : Slot) (number : ℕ) (event : ToldEvent) (told : List AccountedEvent) : Type 0 where
     pub one : AccountedEvent
     pub there : Contains told one

@@ -1,4 +1,4 @@
--- Where the Begin of each file is noted, each of their accounts was begun.
+-- If the Begin of each file is noted, each of their accounts was begun.
 use Rattle.std.proofs.Common.{◌≡◌, List, [], ◌∷◌, Contains, Option, Some, refl}
 use Rattle.std.specs.List.{AllByRecursion}
 use Rattle.kept_rows.specs.Account.{Place}

@@ -1,5 +1,5 @@
--- The notes of a run are those that it told and those that it collected; and the key of each file that was begun and not removed has a row among
--- rows over all of them: the one that stands over its slot's notes.
+-- The notes of a run are those that it reported and those that it collected; and the key of each file that was begun and not removed has a row among
+-- rows over all of them: the one that is over its slot's notes.
 use Rattle.std.proofs.Common.{◌≡◌, ◌⊎◌, inl, inr, ℕ, ◌<◌, ◌≤◌, List, [], ◌∷◌, ◌++◌, Contains, max, map, Option, None, Some, IsSomeAnd, refl, sym, ap, ◌∙◌, subst, arith}
 use Rattle.std.specs.List.{AllByRecursion, filter, fold}
 use Rattle.std.specs.Option.{is_some}
@@ -130,7 +130,7 @@ module _ (run : Run) (files : List Filed) (hiddens : List Hidden) (workers : Lis
 
   -- ---- rows
 
-  -- the row that stands over the file's notes is among these
+  -- the row that is over the file's notes is among these
   pub record IsBegunRow (file : Filed) (rows : List Row) : Type 0 where
     pub start : Start
     pub key_is : start.key ≡ key_in file

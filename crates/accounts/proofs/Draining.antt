@@ -1,5 +1,5 @@
 -- A run that is done drained its folder: each entry that an input covers was skipped, or its file was found with another key, or it has a
--- row that stands at the end of its last complete line.
+-- row that is at the end of its last complete line.
 use Rattle.std.proofs.Common.{◌≡◌, ◌⊎◌, inl, inr, ℕ, ◌==◌, List, [], ◌∷◌, ◌++◌, Contains, length, max, map, Option, None, Some, if◌then◌else◌, refl, sym, ap, subst, ◌∙◌, arith}
 use Rattle.std.specs.Prelude.{slice_get}
 use Rattle.std.specs.List.{AllByRecursion}

@@ -1,4 +1,4 @@
--- A file that is told to its end has a row that stands there, where its events are settled.
+-- A file that is reported to its end has a row that is there, if its events are settled.
 use Rattle.std.proofs.Common.{◌≡◌, ℕ, ◌+◌, ◌==◌, ◌<◌, Bool, List, [], ◌∷◌, ◌++◌, Contains, length, take, drop, map, Option, None, Some, refl, sym, ap, subst, ◌∙◌, append-nil, arith, if◌then◌else◌}
 use Rattle.std.specs.Prelude.{slice_get}
 use Rattle.std.specs.Option.{option_map_or}
@@ -59,7 +59,7 @@ use Rattle.accounts.proofs.Lists.{each_then, last_of_each}
 use Rattle.accounts.proofs.Segmented.{as_many, read_exactly}
 use Rattle.accounts.proofs.Slots.{file_is_read, kept_are_looks}
 
--- ---- of what was told of a file
+-- ---- of what was reported of a file
 
 module _ (watch : Watch) (opened : Opened) (moments : List ℕ) (turned : Turned) (in_range : IsGroupRule opened.rule.multiline) where
   rule_in_range : (told : Option TailHistory) → IsToldFile watch opened moments turned told → IsGroupRule turned.history.rule.multiline
@@ -99,7 +99,7 @@ module _ (place_of : ℕ → ToldEvent → Option Place) (opening : ℕ) (rule :
     start_is = found.start_is;
   }
 
-  -- behind an epoch of this number
+  -- after an epoch of this number
   record RunsEnd (present : Telling) (last : Segment) (runs : Runs) : Type 0 where
     none : runs.present ≡ []
     found : HasLast place_of (part_of opening rule present last) present.start (epoch_at present.epoch (accounts runs.later))
@@ -186,7 +186,7 @@ ends_there h file before part in_range tells all_told read some = by_bytes h.pre
         life_read_is first (before ++ part ∷ []) ∙ of_last first before
         ∙ last_same (last_life_of first (segments_in before)) some.last part.segment.place (steps_in part.segment) bytes
 
-    -- where nothing was read, both are its start
+    -- if nothing was read, both are its start
     by_bytes : (bytes : List ℕ) → h.present.bytes ≡ bytes →
         whole_lines_end h.rule.lines (life_of file (life_by (before ++ part ∷ []))) h.present.start (read_to h.present) ≡ told_to h.present
     by_bytes [] none =
@@ -206,7 +206,7 @@ ends_there h file before part in_range tells all_told read some = by_bytes h.pre
 
 -- ---- the row
 
--- a file that was opened once and told to its end
+-- a file that was opened once and reported to its end
 pub is_read_to_its_end : (run : Run) (placed : Parcel → Option Place) (files : List Filed) (opened : Opened) (turned : Turned) (told : TailHistory) (changed known_from : ℕ) →
     AreDistinct (map slot_in files) → Contains files (record { opened = opened; turned = turned; looks = told.looks; changed = changed; known_from = known_from; later = []; removed = None; shrank_from = None }) →
     IsToldFile (watch_in run) opened run.trace.moments turned (Some told) → GivesKey opened.rule opened.begin.key opened.begin.path opened.file opened.asked →

@@ -51,7 +51,7 @@ abbrev tail_of : List ℕ → List ℕ
 tail_of [] = []
 tail_of (x ∷ xs) = xs
 
--- a list that ends with a moment and is parted: the second part ends with it, where there is one
+-- a list that ends with a moment and is parted: the second part ends with it, if there is one
 ends_left : (used left earlier : List ℕ) (now : ℕ) → left ≢ [] → used ++ left ≡ earlier ++ now ∷ [] → EndsAt left now
 ends_left [] left earlier now some is = record { earlier = earlier; are = is }
 ends_left (u ∷ used) left [] now some is = absurd (some (none_behind used left (ap tail_of is)))
@@ -67,7 +67,7 @@ last_in moments now ends = subst (λ (l : List ℕ). Contains l now) (sym ends.a
 some_left : (left : List ℕ) (now : ℕ) → Contains left now → left ≢ []
 some_left left now there none = none_there now (subst (λ (l : List ℕ). Contains l now) none there)
 
--- a member stands between others
+-- a member is between others
 record Parted (all : List ℕ) (one : ℕ) : Type 0 where
   before : List ℕ
   behind : List ℕ
@@ -161,7 +161,7 @@ module _ {L : Type 0} (told : L → Option Talk) (timeout start : ℕ) where
       resting none = let rest = f.rests none.0 in (rest.0, subst (λ (l : List ℕ). EndsAt l w.failed.0) (sym (ap (λ (l : List ℕ). moments ++ l) none.1 ∙ append-nil moments)) rest.1)
 
   module _ (moments : List ℕ) (all : List Outcome) (old : Working L) (f : IsFailingSo told timeout start moments all old) where
-    -- a moment at which it does not rest is behind those of its failures
+    -- a moment at which it does not rest is after those of its failures
     now_left : (now : ℕ) → EndsAt moments now → ¬ (IsResting old now) → Contains f.left now
     now_left now ends awake = by_left f.left refl
       where
@@ -357,7 +357,7 @@ module _ {L : Type 0} (told : L → Option Talk) (timeout start : ℕ) where
             later (inl is) = subst (Contains f.left) is (each 0 out (omega arith))
             later (inr is) = subst (Contains f.left) is there
 
-  -- the last so many outcomes are failures
+  -- this many of the last outcomes are failures
   pub last_failures : (moments : List ℕ) (all : List Outcome) (w : Working L) (attempts : ℕ) → IsFailingSo told timeout start moments all w → attempts ≤ w.failures → HasLastFailures timeout attempts moments (drop start all)
   last_failures moments all w attempts f enough =
       last_so_many timeout attempts moments (drop start all) f.earlier f.last f.are (omega (arith, enough, f.number)) f.nothing_new

@@ -50,7 +50,7 @@ module _ (timeout : ℕ) where
     later = tt;
   })
 
-  -- with one more, by moments behind those of the others
+  -- with one more, by moments after those of the others
   pub failures_with : (outcomes : List Outcome) (one : Outcome) (used own : List ℕ) → AreFailures timeout outcomes used → AreFailures timeout (one ∷ []) own → AreFailures timeout (outcomes ++ one ∷ []) (used ++ own)
   failures_with [] one used own fail fails = one_behind one used own fails
   failures_with (Refused ∷ outcomes) one used own fail fails = failures_with outcomes one used own fail fails
@@ -111,7 +111,7 @@ only_first_behind (first ∷ front) back only = only_first_of back (nothing_behi
 
 -- ---- as many as are asked for
 
--- the last of failures, where at least so many have nothing new behind the first
+-- the last of failures, if at least this many have nothing new after the first
 pub last_so_many : (timeout attempts : ℕ) (moments : List ℕ) (outcomes earlier last : List Outcome) → outcomes ≡ earlier ++ last → attempts ≤ length last → OnlyTheFirstAcknowledges last → AreFailures timeout outcomes moments
     → HasLastFailures timeout attempts moments outcomes
 last_so_many timeout attempts moments outcomes earlier last are enough only fail =

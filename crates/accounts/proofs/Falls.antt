@@ -1,4 +1,4 @@
--- Looks behind which the length was below what was read: they begin one more segment, which only asks for the key.
+-- Looks after which the length was below what was read: they begin one more segment, which only asks for the key.
 use Rattle.std.proofs.Common.{◌≡◌, ℕ, ◌+◌, ◌<◌, Bool, true, false, List, [], ◌∷◌, ◌++◌, Some, None, refl, sym, ap, subst, ◌∙◌, append_assoc, arith, if◌then◌else◌}
 use Rattle.std.specs.List.{AllByRecursion}
 use Rattle.std.proofs.lemmas.Bool.{cond-false, cond-true, lt-ltb}
@@ -103,7 +103,7 @@ segments_with_fall place since fall later front last segments asks below =
     ∙ ap (λ (l : List Segment). l ++ fallen fall later) segments
     ∙ append_assoc front (last ∷ []) (fallen fall later)
 
--- ---- where only the key was asked behind it
+-- ---- where only the key was asked after it
 
 read_never_falls : (place : ℕ) (question : Question) (sight : Sight) → IsRead question → falls_below place question sight ≡ false
 read_never_falls place Length sight is = absurd is

@@ -46,7 +46,7 @@ module _ (slot : Slot) where
       )
       ∙ sym (append_assoc front (flat_map (announced_in slot) (past ++ last ∷ [])) more)
 
-  -- one more behind it
+  -- one more after it
   notes_next : (past : List Telling) (last next : Telling) → notes_in slot ((past ++ last ∷ []) ++ next ∷ []) ≡ notes_in slot (past ++ last ∷ []) ++ announced_in slot next
   notes_next [] last next =
       ap (λ (l : List Note). settlements_in slot last ++ l) (append-nil (announced_in slot next))
@@ -92,7 +92,7 @@ abbrev pub of_slot : Slot → History → Turned
 of_slot slot history = record { slot = slot; history = history }
 
 module _ (slot : Slot) (now : ℕ) (did : Did) (history : History) where
-  -- these events were told
+  -- these events were reported
   module _ (events : List ToldEvent) where
     parcels_by_events : parcels_told (of_slot slot (did_with now events did history)) ≡ parcels_told (of_slot slot history) ++ parcels_of slot history.present.epoch events
     parcels_by_events =

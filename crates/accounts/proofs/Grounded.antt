@@ -1,4 +1,4 @@
--- What was collected has its ground in what files told, and what was acknowledged is of their events.
+-- What was collected has its ground in what files reported, and what was acknowledged is of their events.
 use Rattle.std.proofs.Common.{◌≡◌, ◌⊎◌, inl, inr, List, [], ◌∷◌, ◌++◌, Contains, map, sym}
 use Rattle.std.specs.List.{AllByRecursion, flat_map}
 use Rattle.std.proofs.lemmas.List.Elements.{Contains-append_cases, Contains-append_left, Contains-append_right}

@@ -1,4 +1,4 @@
--- A harvester that stands for its file stands for it still once it heard what a scan told of that: that something changed, that it was
+-- A harvester that stands for its file stands for it still once it heard what a scan reported of that: that something changed, that it was
 -- removed, or that it has another name. So do those of a lane, and nothing is given by it.
 use Rattle.std.proofs.Common.{◌≡◌, ℕ, ◌<◌, true, false, List, [], Option, IfSome, IsTrue, refl, sym, ap, subst, ◌∙◌, append-nil, arith}
 use Rattle.std.specs.List.{AllByRecursion, flat_map}
@@ -84,7 +84,7 @@ module _ {T : Type 0} (numbers : T → Option (ℕ × ℕ)) (told : T → Option
   abbrev So : Turned → Harvester T → Type 0
   So = IsTurnedSo numbers told watch files moments
 
-  -- its history goes on, and nothing was told
+  -- its history goes on, and nothing was reported
   gives_nothing : (turned : Turned) (history : History) (new : Harvester T) → tellings_in history ≡ tellings_in turned.history → So (of_slot turned.slot history) new →
       TurnsOn watch moments numbers told files turned new Nothing
   gives_nothing turned history new same stands = record {

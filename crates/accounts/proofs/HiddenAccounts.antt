@@ -119,7 +119,7 @@ module _ (run : Run) (hiddens : List Hidden) (may : MayAllGo run hiddens) where
     places_apart = subst AreDistinct (sym (same_places account hiddens)) are.places_apart;
   }
 
--- ---- only told events were sent
+-- ---- only reported events were sent
 
 same_place : (place : Option Place) → PlaceGoesOn place place
 same_place None = tt

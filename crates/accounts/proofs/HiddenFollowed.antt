@@ -26,7 +26,7 @@ use Rattle.accounts.proofs.HiddenSlots.{HasOtherSlot, account_there, files_have_
 use Rattle.accounts.proofs.Lists.{each_then}
 use Rattle.accounts.proofs.Orderly.{member_is}
 
--- ---- followings, front and behind
+-- ---- followings, first ones and later ones
 
 mapped : (P : Following → Type 0) (account : List SlotAccount) → AllByRecursion (λ one. P one.following) account → AllByRecursion P (followings_in account)
 mapped P [] each = tt
@@ -67,7 +67,7 @@ rising_with_hidden account least (hidden ∷ hiddens) apart rise is =
 
 -- ---- the slots of one key
 
--- where slots rise, it is asked only of each slot and greater ones
+-- if slots rise, it is asked only of each slot and greater ones
 later_slot : (least : ℕ) (followings : List Following) (one : Following) → AreRising least followings → Contains followings one → least ≤ one.slot
 later_slot least [] one rise there = absurd (none_there one there)
 later_slot least (first ∷ followings) one rise there = by_case (there_cases first one followings there) (later_slot (first.slot + 1) followings one rise.1)
@@ -181,7 +181,7 @@ module _ (run : Run) (hiddens : List Hidden) (may : MayAllGo run hiddens) where
               subst (λ (l : List ℕ). Contains l opening ⊎ OnlyReads run.trace opening) (sym openings) (are.openings_serve opening path number begun since is);
         }
 
-  -- ---- what is supposed of files is the same, where no scan showed the rows
+  -- ---- what is supposed of files is the same, if no scan showed the rows
 
   -- no scan up to that by which it goes showed its key
   abbrev pub WasNeverShown : Hidden → Type 0
@@ -219,7 +219,7 @@ module _ (run : Run) (hiddens : List Hidden) (may : MayAllGo run hiddens) where
         (λ hidden there. record { last_read = 0; seen = tt }));
   }
 
--- a row that no scan showed up to the one by which it goes begins where it stood
+-- a row that no scan showed up to the one by which it goes begins where it was
 pub begins_unlisted : (run : Run) (hidden : Hidden) (scan : Scan) → find (hidden_key hidden) run.opening ≡ Some hidden.row → hidden.start ≡ start_unlisted hidden.row →
     slice_get run.scans 0 ≡ Some scan → ¬ (ShowsKey run scan (hidden_key hidden)) → IsBegun run (hidden_following hidden)
 begins_unlisted run hidden scan found starts is hides =

@@ -1,4 +1,4 @@
--- A hidden row that is not there any more is rightly lost, where its slot is the newest one of its key.
+-- A hidden row that is not there any more is rightly lost, if its slot is the newest one of its key.
 use Rattle.std.proofs.Common.{◌≡◌, inl, ◌≤◌, List, refl}
 use Rattle.std.specs.List.{AllByRecursion, Contains}
 use Rattle.kept_rows.specs.Account.{SlotAccount, key_of, slot_of}

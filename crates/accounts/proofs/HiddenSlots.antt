@@ -1,4 +1,4 @@
--- What holds of each slot of an account, and of its notes, holds with the slots of hidden rows among them, where it holds of those.
+-- What holds of each slot of an account, and of its notes, holds with the slots of hidden rows among them, if it holds of those.
 use Rattle.std.proofs.Common.{◌≡◌, ◌≢◌, ◌⊎◌, inl, inr, ℕ, ◌+◌, ◌≤◌, Bool, true, false, cond, eqb, nat_lt, List, [], ◌∷◌, Option, Some, None, IsSome, if◌then◌else◌, refl, sym, ap, subst, ◌∙◌, arith}
 use Rattle.std.specs.List.{AllByRecursion, Contains}
 use Rattle.std.specs.Option.{option_and_then}

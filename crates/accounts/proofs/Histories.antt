@@ -1,4 +1,4 @@
--- The history of a file, and what its tail tells, as its harvester makes one turn, is asked to end, or is given another path.
+-- The history of a file, and what its tail reports, as its harvester makes one turn, is asked to end, or is given another path.
 use Rattle.std.proofs.Common.{◌≡◌, ◌⊎◌, inl, inr, ℕ, ◌+◌, ◌<◌, Bool, false, true, ◌||◌, List, [], ◌∷◌, ◌++◌, Contains, Option, Some, None, IfSome, refl, sym, subst, ◌∙◌, arith}
 use Rattle.std.specs.List.{AllByRecursion}
 use Rattle.file_looks.specs.Looks.{AreLooks, TellsLooks}
@@ -26,7 +26,7 @@ use Rattle.accounts.proofs.Given.{epochs_more, epochs_next}
 use Rattle.accounts.proofs.Lists.{each_last, ends_there, in_order_then}
 use Rattle.accounts.proofs.Names.{events_more, events_next, in_turn_more, in_turn_renamed, last_is, names_then}
 
--- ---- what the tail tells
+-- ---- what the tail reports
 
 looks_both : (file : File) (before : Sight) (xs ys : List Look) → AreLooks file before xs → AreLooks file (latest before xs) ys → AreLooks file before (xs ++ ys)
 looks_both file before [] ys first then = then

@@ -60,7 +60,7 @@ input_of_key inputs input other rule another key own at there of also =
     (same_id rule.id another.id key (got_each (λ (r : InputRule). HasNoColon r.id) inputs input rule own.no_colon at)
     (got_each (λ (r : InputRule). HasNoColon r.id) inputs other another own.no_colon there) of also)
 
--- so is one that is told without a look
+-- so is one that is known without a look
 pub input_of_named_key : (inputs : List InputRule) (input other : ℕ) (rule another : InputRule) (path q : List ℕ) (numbers m : Option (ℕ × ℕ)) (key : List ℕ) → HaveOwnIds inputs →
     slice_get inputs input ≡ Some rule → slice_get inputs other ≡ Some another → named_key rule.id rule.file_identity path numbers ≡ Some key →
     named_key another.id another.file_identity q m ≡ Some key → input ≡ other
@@ -68,9 +68,9 @@ input_of_named_key inputs input other rule another path q numbers m key own at t
     input_of_key inputs input other rule another key own at there (named_key_of_input rule.id rule.file_identity path numbers key is)
     (named_key_of_input another.id another.file_identity q m key and)
 
--- ---- from where the later run tells
+-- ---- from where the later run reports
 
--- an epoch behind the first has a greater number
+-- an epoch after the first has a greater number
 none_earlier : (before epoch : ℕ) (epochs : List EpochAccount) (found : EpochAccount) → AreNumberedFrom before epochs → epoch_at epoch epochs ≡ Some found → before < epoch
 none_earlier before epoch [] found numbered is = absurd (let q : None ≡ Some found = is in cc)
 none_earlier before epoch (first ∷ epochs) found numbered is = by_case (eqb first.epoch epoch) refl is (none_earlier (before + 1) epoch epochs found numbered.2)
@@ -79,7 +79,7 @@ none_earlier before epoch (first ∷ epochs) found numbered is = by_case (eqb fi
     by_case true test e later = let number = eqb-true first.epoch epoch test in omega (arith, numbered.0, number)
     by_case false test e later = let more = later e in omega (arith, more)
 
--- an epoch of a slot is that with which it was begun, told from its base, or a later one
+-- an epoch of a slot is that with which it was begun, reported from its base, or a later one
 begun_or_later : (one : SlotAccount) (epoch : ℕ) (found : EpochAccount) → AreNumbered one → epoch_at epoch one.epochs ≡ Some found →
     ((one.following.epoch ≡ epoch) × (found.start ≡ one.following.base)) ⊎ (one.following.epoch < epoch)
 begun_or_later one epoch found numbered is = by_case (eqb numbered.first.epoch epoch) refl (sym (ap (epoch_at epoch) numbered.epochs_are) ∙ is)
@@ -116,7 +116,7 @@ begun_by : (run : Run) (following : Following) (row : Row) → IsBegun run follo
 begun_by run following row begun first found =
     begun_at_first run begun.scan following row found (subst (λ (number : ℕ). StartsAt number run begun.scan following) first begun.starts)
 
--- an epoch of the row's number is told from the row's offset on
+-- an epoch of the row's number is reported from the row's offset on
 starts_there : (run : Run) (one : SlotAccount) (row : Row) (epoch : EpochAccount) → IsFollowing run one.following → AreNumbered one → one.following.known_from ≡ 0 →
     find one.following.key run.opening ≡ Some row → epoch_at row.epoch.0 one.epochs ≡ Some epoch → epoch.start ≡ row.offset
 starts_there run one row epoch follows numbered first found is =
@@ -128,7 +128,7 @@ starts_there run one row epoch follows numbered first found is =
     by_case (inr later) (inl begun) = absurd (omega (arith, later, begun.0))
     by_case (inr later) (inr above) = absurd (omega (arith, later, above))
 
--- ---- what was told of one life
+-- ---- what was reported of one life
 
 told_nothing : (rules : Rules) (licences life : List ℕ) (start : ℕ) (told : List AccountedEvent) → told ≡ [] → AreTold rules licences life start (events_of told)
 told_nothing rules licences life start told none = subst (λ (l : List AccountedEvent). AreTold rules licences life start (events_of l)) (sym none) (record { partition = tt; fates = tt })

@@ -1,4 +1,4 @@
--- What an opening of a file told ends before what a later one tells, where that begins at the end of the first, or later.
+-- What an opening of a file reported ends before what a later one reports, if that begins at the end of the first, or later.
 use Rattle.std.proofs.Common.{◌≡◌, ◌⊎◌, inl, inr, ℕ, ◌<◌, ◌≤◌, List, [], ◌∷◌, Contains, map, refl, sym, ap, subst, ◌∙◌, arith}
 use Rattle.std.proofs.lemmas.List.Elements.{Contains-append_right}
 use Rattle.std.specs.List.{AllByRecursion}
@@ -51,7 +51,7 @@ least_epoch epoch base (first ∷ later) telling are there = by_case (there_case
 
 -- ---- two openings
 
--- what was told so ends before this place of this epoch, or there
+-- what was reported so ends before this place of this epoch, or there
 abbrev pub EndsAhead : History → ℕ → ℕ → Type 0
 EndsAhead history epoch base = (history.present.epoch < epoch) ⊎ ((history.present.epoch ≡ epoch) × (told_to history.present ≤ base))
 

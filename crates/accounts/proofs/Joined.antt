@@ -1,5 +1,5 @@
--- What a tail told before its harvester began belongs to the harvester's own looks: reads that only asked for the key
--- stand before those of the first epoch, and change nothing of what was read and found.
+-- What a tail reported before its harvester began belongs to the harvester's own looks: reads that only asked for the key
+-- are before those of the first epoch, and change nothing of what was read and found.
 use Rattle.std.proofs.Common.{◌≡◌, inl, inr, ℕ, true, List, [], ◌∷◌, ◌++◌, Option, Some, None, refl, sym, ap, subst, ◌∙◌, append_assoc}
 use Rattle.std.specs.List.{AllByRecursion}
 use Rattle.event_tree.specs.declared.line_rule.LineRule.{LineRule}
@@ -38,7 +38,7 @@ record Parts (h : History) (file : File) (over : List Telling) (now : Telling) (
   present : IsReadBy h file now last
   end_look : (place : ℕ) → HasEndLook was place → HasEndLook last place
 
--- the first of these segments is not behind a fall
+-- the first of these segments is not after a fall
 abbrev BeginsWithoutFall : List Segment → Type 0
 BeginsWithoutFall [] = Unit {0}
 BeginsWithoutFall (first ∷ others) = first.fall ≡ None

@@ -1,4 +1,4 @@
--- A file whose tail was asked for its key before its harvester had it, as one of whose tail all looks are the harvester's own: what was told
+-- A file whose tail was asked for its key before its harvester had it, as one of whose tail all looks are the harvester's own: what was reported
 -- of it is the same.
 use Rattle.std.proofs.Common.{ℕ, List, [], Some, refl, sym, subst}
 use Rattle.file_identity.specs.Asking.{IsAsking}
@@ -16,7 +16,7 @@ joined_opened opened = record opened { asked = [] }
 abbrev pub joined_turned : Turned → Turned
 joined_turned turned = record turned { history = record turned.history { before = [] } }
 
--- what scans told of the one they told of the other
+-- what scans reported of the one they reported of the other
 abbrev pub joined_watch : Watch → Opened → Watch
 joined_watch watch opened = record watch { removed = λ (joined : Opened). watch.removed opened; renamed = λ (joined : Opened) (name : Name). watch.renamed opened name }
 

@@ -1,4 +1,4 @@
--- The files of a run in the order of their slots, each with what was told of it, wherever its harvester stood.
+-- The files of a run in the order of their slots, each with what was reported of it, wherever its harvester was.
 use Rattle.std.proofs.Common.{◌≡◌, ◌⊎◌, inl, inr, ℕ, ◌+◌, ◌≤◌, ◌==◌, Bool, List, [], ◌∷◌, ◌++◌, Contains, map, None, Some, refl, sym, ap, subst, ◌∙◌, arith}
 use Rattle.std.specs.List.{AllByRecursion, flat_map}
 use Rattle.std.proofs.lemmas.Bool.{eq-eqb, eqb-true}
@@ -110,7 +110,7 @@ module _ (looks : Opened → List Look) (changed : Opened → ℕ) where
           let rest_both = weigh-append (λ (t : Turned). h t.slot) front behind in
           omega (arith, all, mapped, both, same, rest_mapped, rest_both)
 
-  -- each slot is told as often as it was opened
+  -- each slot is reported as often as it was opened
   pub join : (opened : List Opened) (told : List Turned) → AsOften (slots_of told) (slots_in opened) → AreJoined opened told
   join [] told often = record { files = []; opened_are = refl; turned_are = subst (λ (l : List Turned). AsOften [] l) (sym (none_told told often)) (λ h. refl); each = tt }
   join (one ∷ opened) told often =
@@ -120,7 +120,7 @@ module _ (looks : Opened → List Look) (changed : Opened → ℕ) where
       subst (AreJoined (one ∷ opened)) (sym parts.2)
       (join_one one opened of.item parts.0 parts.1 of.is (subst (λ (l : List Turned). AsOften (slots_of l) (slots_in (one ∷ opened))) parts.2 often) (join opened))
 
--- what files told is the same in any order of them
+-- what files reported is the same in any order of them
 pub told_as_often : {A : Type 0} (f : Turned → List A) (xs ys : List Turned) → AsOften xs ys → AsOften (flat_map f xs) (flat_map f ys)
 told_as_often f xs ys often h = weigh-flat_map h f xs ∙ often (λ turned. weigh h (f turned)) ∙ sym (weigh-flat_map h f ys)
 
@@ -138,7 +138,7 @@ rising least (file ∷ files) rise = (rise.0, rising (slot_in file + 1) files ri
 pub joined_in_slots : (least : ℕ) (files : List Filed) (opened : List Opened) → map (λ (file : Filed). file.opened) files ≡ opened → AreOpenedInSlots least opened → AreInSlots least files
 joined_in_slots least files opened are rise = rising least files (subst (AreOpenedInSlots least) (sym are) rise)
 
--- what is told of a file by its tail is told by what the file has of it
+-- what is reported of a file by its tail is reported by what the file has of it
 pub told_by_its_tail : (watch : Watch) (moments : List ℕ) (file : Filed) (tail : TailHistory) → tail.looks ≡ file.looks →
     IsToldFile watch file.opened moments file.turned (Some tail) → IsToldFile watch file.opened moments file.turned (Some (tail_of file))
 told_by_its_tail watch moments file tail looks is =

@@ -1,5 +1,5 @@
 -- Where a file of a done run stands by its notes: its last epoch is the greatest that they name, and what they settle of it is all
--- that was told.
+-- that was reported.
 use Rattle.std.proofs.Common.{◌≡◌, ◌⊎◌, inl, inr, ℕ, ◌==◌, ◌≤◌, Bool, List, [], ◌∷◌, ◌++◌, Contains, map, None, Some, refl, sym, ap, subst, ◌∙◌, arith, if◌then◌else◌}
 use Rattle.std.specs.List.{AllByRecursion, filter_map, flat_map}
 use Rattle.std.proofs.lemmas.Bool.{eq-eqb, eqb-true, ne_eqb}
@@ -79,7 +79,7 @@ module _ (run : Run) (files : List Filed) (hiddens : List Hidden) (workers : Lis
     (turned_apart : AreDistinct (map (λ (turned : Turned). turned.slot.0) (turned_of files))) (epochs : AllByRecursion IsInEpochs (turned_of files))
     (own : AllByRecursion HasItsSlot files) (are : AreNotesOf run files hiddens (acknowledged_in workers) notes) (within : (note : Note) → Contains collected note → Contains notes note)
     (settled : AreAllCollected (turned_of files) workers collected) where
-  -- ---- what was told is collected
+  -- ---- what was reported is collected
 
   told_is_collected : (turned : Turned) (note : Note) → Contains (turned_of files) turned → Contains (notes_told turned) note → Contains collected note
   told_is_collected turned note among there =

@@ -146,7 +146,7 @@ present_is_named slot epoch base (first ∷ past) present are =
     (flat_there (announced_in slot) (past ++ present ∷ []) present (Announce slot (record { 0 = present.epoch })) (last_there past present)
     (first_there (Announce slot (record { 0 = present.epoch })) (settlements_in slot present))))
 
--- a settlement of one of the epochs is among what was told of them
+-- a settlement of one of the epochs is among what was reported of them
 pub settlement_there : (slot : Slot) (tellings : List Telling) (telling : Telling) (note : Note) → Contains tellings telling → Contains (settlements_in slot telling) note →
     Contains (notes_in slot tellings) note
 settlement_there slot [] telling note among there = absurd (none_there telling among)
@@ -175,7 +175,7 @@ module _ (run : Run) (files : List Filed) (hiddens : List Hidden) (acknowledged 
     not_hidden : (hidden : Hidden) → Contains hiddens hidden → hidden_slot hidden ≡ slot_in file → ⊥
     not_hidden hidden there same = beside.other_slots file among hidden there (sym same)
 
-    -- a note of the file: its Begin, a moment of it, or one that has its ground in what files told
+    -- a note of the file: its Begin, a moment of it, or one that has its ground in what files reported
     pub own_note : (P : Note → Type 0) →
         ((note : Note) → IsBeginOf file note → P note) → ((note : Note) (seen : IsMomentOfOne files note) → seen.file ≡ file → P note) →
         ((note : Note) → HasGround (turned_of files) acknowledged note → P note) → ((note : Note) → IsNamingOf run file note → P note) → ((note : Note) → IsForgetOf file note → P note) →

@@ -14,7 +14,7 @@ pub flat_map_both : {A B : Type 0} (f : A → List B) (xs ys : List A) → flat_
 flat_map_both f [] ys = refl
 flat_map_both f (x ∷ xs) ys = ap (λ zs. f x ++ zs) (flat_map_both f xs ys) ∙ sym (append_assoc (f x) (flat_map f xs) (flat_map f ys))
 
--- ---- what stands in both
+-- ---- what is in both
 
 pub front_there : {A : Type 0} (xs ys : List A) (x : A) → Contains xs x → Contains (xs ++ ys) x
 front_there [] ys x there = absurd (none_there x there)

@@ -1,4 +1,4 @@
--- Where the parcels stand that the talks of workers' wires acknowledged, and that wherever they acknowledge a payload a parcel stands.
+-- Where the parcels are that the talks of workers' wires acknowledged, and that wherever they acknowledge a payload a parcel is there.
 use Rattle.std.proofs.Common.{◌≡◌, ℕ, zero, suc, ◌+◌, List, [], ◌∷◌, ◌++◌, Contains, map, Option, None, Some, refl, sym, ap, subst, ◌∙◌, append-nil, arith}
 use Rattle.std.specs.Prelude.{slice_get}
 use Rattle.std.specs.List.{AllByRecursion, flat_map}
@@ -33,7 +33,7 @@ AreParts (outcome ∷ outcomes) [] = ⊥
 AreParts (Refused ∷ outcomes) (part ∷ parts) = (part ≡ []) × AreParts outcomes parts
 AreParts (Finished talk faults idles ∷ outcomes) (part ∷ parts) = Acknowledges talk.pieces (payloads_of part) × AreParts outcomes parts
 
--- where a mapped list is cut, the list is
+-- if a mapped list is cut, the list is
 record IsCut {A B : Type 0} (f : A → B) (xs : List A) (first rest : List B) : Type 0 where
   front : List A
   behind : List A
@@ -95,7 +95,7 @@ all_parts (taken ∷ workers) (wire ∷ wires) of =
       together = ap (λ (l : List Parcel). l ++ flat_map flat others.all) first.together ∙ ap (λ (l : List Parcel). taken.acknowledged ++ l) others.together;
     }
 
--- ---- each stands at its place
+-- ---- each is at its place
 
 pub record IsLocated (all : List (List (List Parcel))) (one : Placement) : Type 0 where
   pub parts : List (List Parcel)
@@ -156,7 +156,7 @@ all_located all =
     subst (λ (n : ℕ). IsLocated all (placement n c k parcel)) (sym (behind_none w))
     (record { parts = parts; wire = here; part = part; connection = there; number = at }))
 
--- ---- where a payload is acknowledged, a parcel stands
+-- ---- where a payload is acknowledged, a parcel is there
 
 record IsGot {A B : Type 0} (f : A → B) (xs : List A) (k : ℕ) (y : B) : Type 0 where
   item : A
@@ -235,7 +235,7 @@ has_parcel workers wires all payload place are of stands =
       located = record { parts = wire.parts; wire = wire.parts_are; part = part.part; connection = part.part_is; number = got.got };
     }
 
--- ---- what is located stands among the placements
+-- ---- what is located is among the placements
 
 there_at : (wire connection number : ℕ) (parcels : List Parcel) (k : ℕ) (parcel : Parcel) → slice_get parcels k ≡ Some parcel →
     Contains (placements_at wire connection number parcels) (placement wire connection (number + k) parcel)

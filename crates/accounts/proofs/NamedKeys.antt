@@ -1,4 +1,4 @@
--- A key that an asking gave is one of its input, whether or not it is told without a look into the file: two inputs whose ids have no colon,
+-- A key that an asking gave is one of its input, whether or not it is known without a look into the file: two inputs whose ids have no colon,
 -- and that have one key, have one id.
 use Rattle.std.proofs.Common.{◌≡◌, ℕ, ◌==◌, Bool, true, false, List, [], ◌∷◌, ◌++◌, length, codes, Option, None, Some, if◌then◌else◌, refl, sym, ap, subst, ◌∙◌}
 use Rattle.std.proofs.lemmas.List.{append_cancel_left}
@@ -18,7 +18,7 @@ use Rattle.outside.specs.declared.history.Shown.{Shown}
 
 -- ---- of one input
 
--- what stands before the first colon
+-- what is before the first colon
 same_front : (first second behind after : List ℕ) → HasNoColon first → HasNoColon second → first ++ 58 ∷ behind ≡ second ++ 58 ∷ after → first ≡ second
 same_front [] [] behind after none none_there is = refl
 same_front [] (byte ∷ second) behind after none none_there is =
@@ -40,7 +40,7 @@ same_id id other key none none_there of also =
     same_front id other (codes ":" ++ of.rest) (codes ":" ++ also.rest) none none_there
     (append_cancel_left (codes "filestream::") (id ++ (codes "::" ++ of.rest)) (other ++ (codes "::" ++ also.rest)) (sym of.spelled ∙ also.spelled))
 
--- ---- keys that are told without a look
+-- ---- keys that are known without a look
 
 behind_the_id : (id kind value : List ℕ) → id ++ codes "::" ++ kind ++ codes "::" ++ value ≡ id ++ (codes "::" ++ (kind ++ codes "::" ++ value))
 behind_the_id [] kind value = refl

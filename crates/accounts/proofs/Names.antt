@@ -1,4 +1,4 @@
--- Events that were told by the names of their file, in turn: as more is told, as the file has another name, and as moments come.
+-- Events that were reported by the names of their file, in turn: as more is reported, as the file has another name, and as moments come.
 use Rattle.std.proofs.Common.{◌≡◌, ℕ, ◌+◌, ◌<◌, ◌≤◌, List, [], ◌∷◌, ◌++◌, refl, sym, ap, subst, ◌∙◌, append_assoc, append-nil, arith}
 use Rattle.std.proofs.lemmas.List.Elements.{Contains-append_left}
 use Rattle.std.specs.List.{AllByRecursion, flat_map}
@@ -59,7 +59,7 @@ module _ (moments : List ℕ) where
     in_turn_more next.path names all.1 more all.4 new,
   )
 
-  -- none was told yet by another name
+  -- none was reported yet by another name
   pub in_turn_renamed : (path : List ℕ) (names : List Name) (name : Name) (told : List ToldEvent) → AreToldInTurn moments path names told →
       AreToldInTurn moments path (names ++ name ∷ []) told
   in_turn_renamed path [] name told all = (told, [], sym (append-nil told), all, tt)
@@ -81,7 +81,7 @@ module _ (moments : List ℕ) where
     in_turn_later more next.path names all.1 all.4,
   )
 
-  -- what holds of each event that was told by one of the names
+  -- what holds of each event that was reported by one of the names
   pub in_turn_each : (P : ToldEvent → Type 0) (path : List ℕ) (names : List Name) (told : List ToldEvent) → ((event : ToldEvent) → IsToldBy path moments event → P event) →
       AllByRecursion (λ (name : Name). (event : ToldEvent) → IsToldBy name.path moments event → P event) names → AreToldInTurn moments path names told → AllByRecursion P told
   in_turn_each P path [] told first later all = each_then (IsToldBy path moments) P told first all

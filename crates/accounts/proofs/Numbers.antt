@@ -1,4 +1,4 @@
--- Where no note is elsewhere than collected, as many events of the account are acknowledged as collected notes say so, and as many
+-- If no note is elsewhere than collected, as many events of the account are acknowledged as collected notes say so, and as many
 -- are dropped.
 use Rattle.std.proofs.Common.{◌≡◌, ◌⊎◌, inl, inr, ℕ, suc, ◌+◌, ◌-◌, ◌^◌, min, Bool, true, false, cond, List, [], ◌∷◌, ◌++◌, Contains, length, map, Option, Some, None, refl, sym, ap, subst, ◌∙◌, append-nil, arith}
 use Rattle.std.specs.Prelude.{IsTrue, count_by, is_some}
@@ -184,7 +184,7 @@ module _ (placed : Parcel → Option Place) (h : AccountedEvent → ℕ) (g : Pa
       let notes = weigh-append k (notes_told (turned_in file)) (flat_map notes_told (turned_of files)) in
       omega (arith, own, others, events, parcels, notes)
 
--- ---- what was acknowledged, among all that was told
+-- ---- what was acknowledged, among all that was reported
 
 acknowledgements_weigh : (parcels : List Parcel) → weigh acknowledges (notes_of parcels) ≡ weigh one_for parcels
 acknowledgements_weigh [] = refl
@@ -194,7 +194,7 @@ no_drops : (parcels : List Parcel) → weigh drops (notes_of parcels) ≡ 0
 no_drops [] = refl
 no_drops (parcel ∷ parcels) = omega (arith, no_drops parcels)
 
--- what files told is acknowledged or elsewhere, and each note of it is collected
+-- what files reported is acknowledged or elsewhere, and each note of it is collected
 pub record AreAllNoted (files : List Turned) (workers : List Taken) (collected : List Note) : Type 0 where
   pub elsewhere : List Parcel
   pub parcels_are : AsOften (flat_map parcels_told files) (elsewhere ++ acknowledged_in workers)
@@ -215,7 +215,7 @@ all_noted files workers collected fits every = record {
       omega (arith, noted, sums, told, all, both, none);
 }
 
--- so it is of the same files in another order
+-- the same holds of the same files in another order
 pub noted_over : (files others : List Turned) (workers : List Taken) (collected : List Note) → AsOften (flat_map parcels_told others) (flat_map parcels_told files) →
     AsOften (flat_map notes_told others) (flat_map notes_told files) → AreAllNoted files workers collected → AreAllNoted others workers collected
 noted_over files others workers collected parcels notes noted = record {
@@ -238,7 +238,7 @@ module _ (placed : Parcel → Option Place) (workers : List Taken) (wires : List
       by_case None is = refl
       by_case (Some place) is = absurd (not (places.no_other parcel place is))
 
-  -- no parcel is told twice, so those that are placed are those that were acknowledged
+  -- no parcel is reported twice, so those that are placed are those that were acknowledged
   module _ (told elsewhere : List Parcel) (often : AsOften told (elsewhere ++ acknowledged_in workers)) (once : AreOnce same_parcel told) where
     apart : (parcel : Parcel) → Contains elsewhere parcel → Contains (acknowledged_in workers) parcel → ⊥
     apart parcel there here =
@@ -348,7 +348,7 @@ module _ (placed : Parcel → Option Place) (workers : List Taken) (wires : List
       let own = no_drops (acknowledged_in workers) in
       omega (arith, counted, all, none, sums, own)
 
-  -- where all that was told is acknowledged
+  -- where all that was reported is acknowledged
   module _ (all : AsOften told (acknowledged_in workers)) where
     none_left : weigh left_over (all_events account) ≡ 0
     none_left =
@@ -373,7 +373,7 @@ module _ (placed : Parcel → Option Place) (workers : List Taken) (wires : List
     pub all_counted : AreAllCounted account
     all_counted = record { each = each_is_counted (all_events account) none_left; together = together }
 
--- ---- with slots of which nothing was told
+-- ---- with slots of which nothing was reported
 
 events_with : (account others : List SlotAccount) → all_events others ≡ [] → all_events (account ++ others) ≡ all_events account
 events_with account others none =

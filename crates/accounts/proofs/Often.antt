@@ -30,7 +30,7 @@ often_back xs ys often h = sym (often h)
 pub often_both : {A : Type 0} (xs ys more others : List A) → AsOften xs ys → AsOften more others → AsOften (xs ++ more) (ys ++ others)
 often_both xs ys more others first then h = omega (arith, weigh-append h xs more, weigh-append h ys others, first h, then h)
 
--- ---- what stands in them, by a test
+-- ---- what is in them, by a test
 
 module _ {A : Type 0} (same : A → A → Bool) (is : TellsSame same) where
   pub there_counts : (xs : List A) (x : A) → Contains xs x → 0 < count_of same x xs
@@ -85,7 +85,7 @@ module _ {A : Type 0} (same : A → A → Bool) (is : TellsSame same) where
       by_case zero e = e
       by_case (suc n) e = absurd (not (counted_there xs x (omega (arith, e))))
 
-  -- no item of one stands in the other
+  -- no item of one is in the other
   pub once_both : (xs ys : List A) → AreOnce same xs → AreOnce same ys → ((x : A) → Contains xs x → Contains ys x → ⊥) → AreOnce same (xs ++ ys)
   once_both xs ys left right apart one = by_case (count_of same one xs) refl
     where
@@ -96,7 +96,7 @@ module _ {A : Type 0} (same : A → A → Bool) (is : TellsSame same) where
           let none : count_of same one ys ≡ 0 = none_counts ys one (apart one there) in
           omega (arith, weigh-append (λ (other : A). one_where (same other one)) xs ys, none, left one)
 
-  -- one more, which stands not among the others
+  -- one more, which is not among the others
   pub once_more : (x : A) (xs : List A) → (Contains xs x → ⊥) → AreOnce same xs → AreOnce same (x ∷ xs)
   once_more x xs not once one = by_case (same x one) refl
     where

@@ -1,4 +1,4 @@
--- The account of a slot, over all openings of its file: where identities are kept and truncations are seen, it is one of the run.
+-- The account of a slot, over all openings of its file: if identities are kept and truncations are seen, it is one of the run.
 use Rattle.std.proofs.Common.{◌≡◌, ◌⊎◌, inl, inr, ℕ, suc, ◌+◌, ◌-◌, ◌<◌, ◌≤◌, List, [], ◌∷◌, ◌++◌, Contains, length, map, Option, None, Some, IfSome, refl, sym, ap, subst, ◌∙◌, arith}
 use Rattle.std.specs.Prelude.{slice_get}
 use Rattle.std.specs.List.{AllByRecursion}
@@ -46,7 +46,7 @@ use Rattle.accounts.proofs.Slots.{tells_both}
 same_of : {A : Type 0} (x y : A) → Some x ≡ Some y → x ≡ y
 same_of x y same = cc
 
--- what is behind the place of one of a list
+-- what is after the place of one of a list
 got_far : {A : Type 0} (front : List A) (x : A) (behind : List A) (k n : ℕ) → n ≡ length front + suc k → slice_get (front ++ x ∷ behind) n ≡ slice_get behind k
 got_far [] x behind k n is = let at : n ≡ suc k = omega (arith, is) in ap (slice_get (x ∷ behind)) at
 got_far (first ∷ front) x behind k n is =
@@ -78,14 +78,14 @@ not_before run one next shown again same_key later = by_order (cases_lt (length 
         }))
         (before_next shown.scan.listings shown.made_before))
 
--- what is behind so many of a list
+-- what is after this many of a list
 got_from : {A : Type 0} (front xs : List A) (k n : ℕ) → n ≡ length front + k → slice_get (front ++ xs) n ≡ slice_get xs k
 got_from [] xs k n is = ap (slice_get xs) (let at : n ≡ k = omega (arith, is) in at)
 got_from (first ∷ front) xs k n is =
     let at : n ≡ suc (length front + k) = omega (arith, is) in
     ap (slice_get (first ∷ (front ++ xs))) at ∙ got_from front xs k (length front + k) refl
 
--- the scan by which a file was opened is before those that were made behind the opening
+-- the scan by which a file was opened is before those that were made after the opening
 since_opened : (run : Run) (one : Opened) (shown : WasShownLast run one) (name : Name) (was : WasRenamedSince run one name) → length shown.front < length was.front
 since_opened run one shown name was = by_order (cases_lt (length shown.front) (length was.front))
   where
@@ -238,7 +238,7 @@ module _ (run : Run) (placed : Parcel → Option Place) (file : Filed) (keeps : 
             }) first.shows
             ∙ sym same_first
 
-    -- each event was told by the path of the opening, or by one of these
+    -- each event was reported by the path of the opening, or by one of these
     events_are_shown : AllByRecursion (IsShownBy run account one.opened.opening) (events_in one.history)
     events_are_shown =
         in_turn_each run.trace.moments (IsShownBy run account one.opened.opening) one.opened.begin.path of.is.told.history.names (events_in one.history)

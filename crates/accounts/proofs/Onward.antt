@@ -132,7 +132,7 @@ module _ {T : Type 0} (numbers : T → Option (ℕ × ℕ)) (told : T → Option
       may (inl read_once) = inl (sym once ∙ read_once)
       may (inr was) = inr (removed stands.opened was)
 
-  -- one that was opened at the last of the moments, by a tail that told what it was asked for its key
+  -- one that was opened at the last of the moments, by a tail that reported what it was asked for its key
   pub stands_opened : (opened : Opened) (now : ℕ) (harvester : Harvester T) → Contains files opened → EndsAt moments now →
       HasTold numbers told (history.opened opened.rule watch.processors opened.begin opened.asked now) harvester → IfSome (told harvester.tail) (IsTailOf opened) →
       IfSome (told harvester.tail) TellsLooks → IfSome (told harvester.tail) (λ tail. numbers harvester.tail ≡ opened.file.numbers) → harvester.rests ≡ false →

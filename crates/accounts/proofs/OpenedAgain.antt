@@ -1,4 +1,4 @@
--- What was told of files over all their openings is, as often, what each of their tails told, with the epochs that were announced as files
+-- What was reported of files over all their openings is, as often, what each of their tails reported, with the epochs that were announced as files
 -- were opened again.
 use Rattle.std.proofs.Common.{◌≡◌, ℕ, ◌+◌, ◌==◌, Bool, true, false, List, [], ◌∷◌, ◌++◌, length, map, Option, None, Some, refl, sym, ap, ◌∙◌, append_assoc, append-nil, arith, if◌then◌else◌}
 use Rattle.std.specs.List.{flat_map}

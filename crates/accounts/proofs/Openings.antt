@@ -1,4 +1,4 @@
--- The openings of a slot's file, one by one: each tail follows the file, goes on behind those before it, and tells a part of the slot's
+-- The openings of a slot's file, one by one: each tail follows the file, goes on after those before it, and reports a part of the slot's
 -- epochs.
 use Rattle.std.proofs.Common.{◌≡◌, ◌⊎◌, inl, inr, ℕ, zero, suc, ◌+◌, ◌≤◌, nat_le, Bool, true, false, List, [], ◌∷◌, ◌++◌, length, map, Option, None, Some, refl, sym, ap, subst, ◌∙◌, arith, if◌then◌else◌}
 use Rattle.std.specs.List.{AllByRecursion}
@@ -151,7 +151,7 @@ module _ (run : Run) (first : Opened) (in_range : IsGroupRule first.rule.multili
   abbrev rule : GroupRule
   rule = first.rule.multiline
 
-  -- what was told of it so far goes on to the end
+  -- what was reported of it so far goes on to the end
   pub in_epochs : (epoch base : ℕ) (last : Opening) (so_far : History) (later : List Opening) → IsSoFar epoch base so_far last.history → AreReopened run first last so_far later →
       IsSoFar epoch base (told_over so_far later) (last_of last later).history
   in_epochs epoch base last so_far [] is are = is
@@ -173,7 +173,7 @@ module _ (run : Run) (first : Opened) (in_range : IsGroupRule first.rule.multili
   are_one_by_one last so_far [] are = tt
   are_one_by_one last so_far (next ∷ later) are = (are.0.closed, are_one_by_one next (told_both so_far next.history) later are.1)
 
-  -- ---- each behind those before it
+  -- ---- each after those before it
 
   pub go_on_behind : (epoch base : ℕ) (last : Opening) (so_far : History) (later : List Opening) (number place : ℕ) → IsSoFar epoch base so_far last.history →
       (MayReopenAt last.history.stage → (number ≡ last.history.present.epoch) × (place ≡ told_to last.history.present)) → AreReopened run first last so_far later →
@@ -195,7 +195,7 @@ module _ (run : Run) (first : Opened) (in_range : IsGroupRule first.rule.multili
             are.1,
       )
 
-  -- ---- what their parts told
+  -- ---- what their parts reported
 
   pub all_tell : (last : Opening) (so_far : History) (later : List Opening) → IsOpeningOf run first last → AreReopened run first last so_far later →
       PartsTell (parts_by rule (tail_by last) ++ parts_in rule (map tail_by later)) (tellings_in last.history ++ tellings_of later)
@@ -301,7 +301,7 @@ module _ (run : Run) (file : Filed) (is : IsFollowedFile run file) where
   own_so_far : IsSoFar own_epoch own_base so_told (last_opening file).history
   own_so_far = in_epochs run file.opened is.in_range own_epoch own_base (first_opening file) file.turned.history file.later first_is_so_far is.reopened
 
-  -- what was told of it over all its openings ends where the last one does
+  -- what was reported of it over all its openings ends where the last one does
   pub all_so_far : IsSoFar epoch base (turned_in file).history (last_opening file).history
   all_so_far = by_case file.shrank_from is.listed.begins
     where

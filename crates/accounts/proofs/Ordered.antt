@@ -1,4 +1,4 @@
--- Each note that is collected may follow the orderly notes before it, in whichever order those were told and collected: it is of one of the
+-- Each note that is collected may follow the orderly notes before it, in whichever order those were reported and collected: it is of one of the
 -- files, whose Begin is among them, and no two events of one epoch overlap.
 use Rattle.std.proofs.Common.{◌≡◌, ◌⊎◌, inl, inr, ℕ, ◌+◌, ◌==◌, ◌<◌, ◌≤◌, Bool, true, false, All, List, [], ◌∷◌, ◌++◌, Contains, map, Some, None, refl, sym, ap, subst, ◌∙◌, append-nil, arith, if◌then◌else◌}
 use Rattle.std.specs.List.{AllByRecursion}
@@ -34,7 +34,7 @@ use Rattle.accounts.proofs.Lists.{each_then}
 use Rattle.accounts.proofs.Grounded.{each_member}
 use Rattle.accounts.proofs.Orderly.{member_is}
 
--- ---- one behind the other
+-- ---- one after another
 
 -- where two lists are parted before an item: within the first, or within the second
 parted : (front more before : List Note) (note : Note) (behind : List Note) → front ++ more ≡ before ++ note ∷ behind →
@@ -265,7 +265,7 @@ module _ (files : List Turned) (acknowledged : List Parcel) where
 
     -- ---- as more is collected
 
-    -- whatever notes are orderly so far, in whichever order they were told and collected
+    -- whatever notes are orderly so far, in whichever order they were reported and collected
     pub orderly_more : (notes more : List Note) → AreOrderly notes → AllByRecursion SettlesSo notes → AreBegunIn notes → AllByRecursion Grounded more → AreOrderly (notes ++ more)
     orderly_more notes more is each begun ground = orderly_on notes more is one
       where

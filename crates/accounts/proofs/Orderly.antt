@@ -1,4 +1,4 @@
--- Events of one slot and one epoch are the same or lie apart, and in each account they stand in one row.
+-- Events of one slot and one epoch are the same or lie apart, and in each account they are in one row.
 use Rattle.std.proofs.Common.{◌≡◌, ◌⊎◌, inl, inr, ℕ, ◌≤◌, List, [], ◌∷◌, Contains, map, Option, refl, sym, ap, subst, ◌∙◌, arith}
 use Rattle.std.specs.List.{AllByRecursion}
 use Rattle.harvester.specs.History.{Telling}

@@ -1,4 +1,4 @@
--- What notes say of one slot and of one key: a row that none of the slot's own notes forgets stands, and a Begin for the key is of its slot.
+-- What notes say of one slot and of one key: a row that none of the slot's own notes forgets is there, and a Begin for the key is of its slot.
 use Rattle.std.proofs.Common.{◌≡◌, ℕ, Bool, true, false, List, [], ◌∷◌, None, Some, ◌==◌, if◌then◌else◌, refl, sym, ap, ◌∙◌}
 use Rattle.std.specs.Ordering.{is_eq}
 use Rattle.std.specs.declared.cmp.Ordering.{Ordering}

@@ -1,4 +1,4 @@
--- The looks of a tail, parted at its last look at the length: both parts are all of them, and where only reads stand behind a look at the
+-- The looks of a tail, parted at its last look at the length: both parts are all of them, and where only reads follow a look at the
 -- length, it is the last one.
 use Rattle.std.proofs.Common.{◌≡◌, Bool, true, false, List, [], ◌∷◌, ◌++◌, ◌||◌, refl, ap, ◌∙◌, append-nil, if◌then◌else◌}
 use Rattle.std.specs.List.{AllByRecursion}
@@ -28,7 +28,7 @@ some_at_length [] fall later asks = ap (λ (q : Question). asks_length q || has_
 some_at_length (look ∷ since) fall later asks =
     ap (λ (b : Bool). asks_length look.question || b) (some_at_length since fall later asks) ∙ or_true (asks_length look.question)
 
--- ---- behind the last of these looks only reads stand
+-- ---- after the last of these looks only reads are
 
 pub before_fall : (since : List Look) (fall : Look) (later : List Look) → fall.question ≡ Length → AllByRecursion (λ (look : Look). IsRead look.question) later →
     before_last_length (since ++ fall ∷ later) ≡ since

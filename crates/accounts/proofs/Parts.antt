@@ -1,4 +1,4 @@
--- A list is parted before an item that stands there.
+-- A list is parted before an item that is there.
 use Rattle.std.proofs.Common.{◌≡◌, ◌⊎◌, inl, inr, List, [], ◌∷◌, ◌++◌, Contains, ap}
 use Rattle.ship_core.proofs.Members.{none_there, there_cases}
 

@@ -66,7 +66,7 @@ module _ (placed : Parcel → Option Place) (workers : List Taken) (wires : List
       both IsPlaced (told_in_slot (account_of placed file)) (all_events (accounts_of placed files))
       (epochs_are_placed file.opened.begin.slot (epochs_of (begun_in file).epoch (begun_in file).base (parts_told file))) (each_placed files)
 
-  -- each acknowledged parcel was told, so its place is that of its event
+  -- each acknowledged parcel was reported, so its place is that of its event
   all_placed : (files : List Filed) → AllByRecursion IsFiled files → ((parcel : Parcel) → Contains (acknowledged_in workers) parcel → Contains (flat_map parcels_told (turned_of files)) parcel) →
       (payload : List ℕ) (place : Place) → IsAcknowledgedAt wires payload place → Contains (places_in (accounts_of placed files)) place
   all_placed files filed told payload place stands =

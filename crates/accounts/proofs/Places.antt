@@ -1,5 +1,5 @@
 -- Each parcel that the talks of workers' wires acknowledged has a place, one place has one parcel, and wherever they acknowledge a
--- payload, a parcel stands.
+-- payload, a parcel is there.
 use Rattle.std.proofs.Common.{◌≡◌, ◌⊎◌, inl, inr, ℕ, zero, suc, ◌+◌, Bool, true, false, List, [], ◌∷◌, ◌++◌, Contains, map, Option, None, Some, refl, sym, ap, subst, ◌∙◌, if◌then◌else◌}
 use Rattle.std.specs.Prelude.{slice_get}
 use Rattle.std.specs.List.{flat_map}
@@ -37,7 +37,7 @@ one_parcel all one other is and same =
     same_some (slice_get and.part other.place.number) one.parcel other.parcel
     (ap (λ (p : Place). slice_get and.part p.number) (sym same) ∙ ap (λ (l : List Parcel). slice_get l one.place.number) (sym part) ∙ is.number) and.number
 
--- ---- what stands among them
+-- ---- what is among them
 
 record IsAmong (placements : List Placement) (parcel : Parcel) (place : Place) : Type 0 where
   one : Placement
@@ -162,7 +162,7 @@ acknowledged_there wires all one are is =
       stands = got_mapped (λ (parcel : Parcel). parcel.payload) is.part one.place.number one.parcel is.number;
     }
 
--- where no parcel stands twice, each has its one place
+-- if no parcel stands twice, each has its one place
 its_place : (placements : List Placement) (one : Placement) → AreOnce same_parcel (parcels_in placements) → Contains placements one → place_among placements one.parcel ≡ Some one.place
 its_place [] one once there = absurd (none_there one there)
 its_place (first ∷ placements) one once there =

@@ -1,4 +1,4 @@
--- A file that was removed: its account ends with the epoch that its last tail told, of which a Forget names the number and the end; and where all
+-- A file that was removed: its account ends with the epoch that its last tail reported, of which a Forget names the number and the end; and where all
 -- of that is settled, its row goes rightly.
 use Rattle.std.proofs.Common.{◌≡◌, ◌⊎◌, inl, inr, ℕ, ◌+◌, ◌==◌, ◌≤◌, Bool, true, false, List, [], ◌∷◌, ◌++◌, Contains, length, map, Option, None, Some, IfSome, refl, sym, ap, subst, ◌∙◌, append-nil, append_assoc, arith, if◌then◌else◌}
 use Rattle.std.specs.List.{AllByRecursion, flat_map}
@@ -86,7 +86,7 @@ parts_end opening rule before (first ∷ past) present (segment ∷ front) last 
     let later = parts_end opening rule first.epoch past present front last (omega (arith, as_long)) in
     (part_of opening rule first segment ∷ later.0, ap (λ (l : List Part). part_of opening rule first segment ∷ l) later.1)
 
--- those of the last tail stand last
+-- those of the last tail come last
 last_parts : (rule : GroupRule) (first : Opening) (later : List Opening) →
     (before : List Part) × (parts_in rule (tail_by first ∷ map tail_by later) ≡ before ++ parts_by rule (tail_by (last_of first later)))
 last_parts rule first [] = ([], append-nil (parts_by rule (tail_by first)))
@@ -222,7 +222,7 @@ epochs_end epoch base some part chained = by_case (runs_end epoch base some part
           on = ends.on;
         }
 
--- ---- what the last epoch told
+-- ---- what the last epoch reported
 
 module _ (place_of : ℕ → ToldEvent → Option Place) where
   abbrev accounts : List EpochParts → List EpochAccount
@@ -244,7 +244,7 @@ module _ (place_of : ℕ → ToldEvent → Option Place) where
       absurd (let next = are.0 in let more = below_last (before + 1) earlier last are.2 in let number = tell.0.epoch in omega (arith, next, more, number, same))
   last_tells_from before (one ∷ earlier) last (first ∷ past) present are tell same = last_tells_from (before + 1) earlier last past present are.2 tell.1 same
 
-  -- the last epoch of a numbered slot told what was told last
+  -- the last epoch of a numbered slot reported what was reported last
   last_tells : (one : SlotAccount) (earlier : List EpochParts) (last : EpochParts) (past : List Telling) (present : Telling) → AreNumbered one → one.epochs ≡ accounts (earlier ++ last ∷ []) →
       TellEpochs (earlier ++ last ∷ []) (past ++ present ∷ []) → last.epoch ≡ present.epoch → TellEpoch last present
   last_tells one [] last [] present numbered are tell same = tell.0
@@ -360,7 +360,7 @@ module _ (run : Run) (placed : Parcel → Option Place) (file : Filed) (is : IsF
   events_are : events_of last_epoch.told ≡ told_in ends.one.parts
   events_are = events_back place_of 0 (place_of ends.one.epoch) ends.one.parts
 
-  -- all that was told of it ends where a Forget says
+  -- all that was reported of it ends where a Forget says
   pub ends_at : next_place last_epoch ≡ told_to (last_told file)
   ends_at =
       ap (last_end ends.one.start) (spans_back last_epoch.told ∙ ap spans_of (events_are ∙ tells.told))
@@ -415,7 +415,7 @@ module _ (run : Run) (placed : Parcel → Option Place) (file : Filed) (is : IsF
             of_front (λ place. Contains last_epoch.licences place)
             (partition_front file.opened.rule.lines rule (λ place. Contains last_epoch.licences place) life ends.one.start (told_in ends.before) (told_in (part ∷ [])) all)
 
-    -- what was told ends there, as its end look found it
+    -- what was reported ends there, as its end look found it
     told_to_the_end : left_to_tell last.history ≡ [] → next_place last_epoch ≡ whole_lines_end file.opened.rule.lines life ends.one.start the_end
     told_to_the_end all_told =
         let seen = premises.truncations in

@@ -1,4 +1,4 @@
--- What was told of a file over its openings, one behind the other: its epochs are numbered from the first on, and the spans of each
+-- What was reported of a file over its openings, one after another: its epochs are numbered from the first on, and the spans of each
 -- adjoin from its start.
 use Rattle.std.proofs.Common.{◌≡◌, ◌⊎◌, inl, inr, ℕ, ◌+◌, ◌==◌, nat_le, Bool, true, false, List, [], ◌∷◌, ◌++◌, refl, sym, ap, subst, ◌∙◌, append_assoc, arith, if◌then◌else◌}
 use Rattle.std.specs.List.{AllByRecursion, flat_map}
@@ -18,7 +18,7 @@ use Rattle.accounts.proofs.Lists.{each_front, last_of_each}
 
 -- ---- where an opening goes on
 
--- in the epoch from where it was told, or in the next one from the first byte
+-- in the epoch from where it was reported, or in the next one from the first byte
 abbrev pub GoesOnFrom : ℕ → ℕ → ℕ → ℕ → Type 0
 GoesOnFrom epoch place next base = ((next ≡ epoch) × (base ≡ place)) ⊎ ((next ≡ epoch + 1) × (base ≡ 0))
 
@@ -31,7 +31,7 @@ goes_on_from epoch place size next base is = by_case (nat_le place size) is
 
 -- ---- the epochs of two histories
 
--- these behind an epoch that was told so far
+-- these after an epoch that was reported so far
 abbrev pub behind_tellings : Telling → List Telling → List Telling
 behind_tellings present [] = present ∷ []
 behind_tellings present (first ∷ later) = if first.epoch == present.epoch then told_on present first ∷ later else present ∷ first ∷ later
@@ -126,7 +126,7 @@ adjoin_both present first later goes own each = by_case (first.epoch == present.
 
 -- ---- over all openings
 
--- so much was told, of which the last opening told this
+-- so much was reported, of which the last opening reported this
 pub record IsSoFar (epoch base : ℕ) (so_far last : History) : Type 0 where
   pub epochs : AreEpochsFrom epoch base (tellings_in so_far)
   pub adjoin : EachAdjoins (tellings_in so_far)
@@ -176,7 +176,7 @@ module _ (epoch base : ℕ) (so_far last next : History) (is : IsSoFar epoch bas
             (adjoin_both so_far.present first later from (last_of_each (λ (t : Telling). Adjoin t.start (spans_of t.told)) so_far.past so_far.present is.adjoin) each),
       )
 
-  -- the next opening tells on
+  -- the next opening reports on
   pub next_so_far : IsSoFar epoch base (told_both so_far next) next
   next_so_far =
       let are : tellings_in (told_both so_far next) ≡ so_far.past ++ behind_tellings so_far.present (tellings_in next) = tellings_behind so_far.past so_far.present next next.past in
@@ -191,7 +191,7 @@ module _ (epoch base : ℕ) (so_far last next : History) (is : IsSoFar epoch bas
 
 -- ---- all of them as one list
 
--- one behind the other, where each either goes on with the one before it or rises
+-- one after another, if each either goes on with the one before it or rises
 abbrev pub merged : Telling → List Telling → List Telling
 merged present [] = present ∷ []
 merged present (first ∷ later) = if first.epoch == present.epoch then merged (told_on present first) later else present ∷ merged first later

@@ -1,5 +1,5 @@
--- The epochs of a file's account are those that its harvesters told, epoch by epoch: runs of parts with one number tell what the epochs of
--- that number told, one behind the other.
+-- The epochs of a file's account are those that its harvesters reported, epoch by epoch: runs of parts with one number tell what the epochs of
+-- that number reported, one after another.
 use Rattle.std.proofs.Common.{◌≡◌, ◌⊎◌, inl, inr, ℕ, ◌+◌, ◌≤◌, ◌==◌, Bool, true, false, List, [], ◌∷◌, ◌++◌, length, refl, sym, ap, subst, ◌∙◌, append-nil, append_assoc, arith, if◌then◌else◌}
 use Rattle.std.proofs.lemmas.Bool.{eq-eqb, eqb-true, ne_eqb}
 use Rattle.event_tree.specs.declared.group_rule.GroupRule.{GroupRule}
@@ -11,9 +11,9 @@ use Rattle.told_events.specs.Told.{ToldEvent}
 use Rattle.accounts.specs.Filed.{TellEpochs, told_on}
 use Rattle.accounts.proofs.Reopened.{merged}
 
--- ---- parts, and what was told by them
+-- ---- parts, and what was reported by them
 
--- part by part; by those behind them nothing was told
+-- part by part; by those after them nothing was reported
 abbrev pub PartsTell : List Part → List Telling → Type 0
 PartsTell [] [] = Unit {0}
 PartsTell [] (telling ∷ tellings) = ⊥
@@ -45,7 +45,7 @@ module _ (opening : ℕ) (rule : GroupRule) where
   untold_tell before [] = tt
   untold_tell before (segment ∷ segments) = (refl, untold_tell (before + 1) segments)
 
-  -- behind the last tail's epochs nothing was told
+  -- after the last tail's epochs nothing was reported
   pub last_tell : (before : ℕ) (tellings : List Telling) (segments : List Segment) → length tellings ≤ length segments →
       PartsTell (parts_of opening rule before tellings segments ++ []) (tellings ++ [])
   last_tell before [] segments few = untold_tell before segments
@@ -54,7 +54,7 @@ module _ (opening : ℕ) (rule : GroupRule) where
 
 -- ---- runs of parts
 
--- with what was told before of the present epoch
+-- with what was reported before of the present epoch
 abbrev RunsTell : ℕ → ℕ → List ToldEvent → Runs → List Telling → Type 0
 RunsTell epoch start told runs [] = ⊥
 RunsTell epoch start told runs (telling ∷ tellings) =

@@ -46,7 +46,7 @@ module _ (h : History) (file : File) where
   read_first (telling ∷ past) present [] last more are is = absurd are
   read_first (telling ∷ past) present (segment ∷ front) last more are is = (are.0, read_first past present front last more are.1 is)
 
-  -- what holds of each that read an epoch, and of those behind them
+  -- what holds of each that read an epoch, and of those after them
   pub of_each : (P : Segment → Type 0) → ((telling : Telling) (segment : Segment) → IsReadBy h file telling segment → P segment) →
       (past : List Telling) (present : Telling) (front : List Segment) (last : Segment) (more : List Segment) → AreReadBy h file past front → IsReadBy h file present last →
       AllByRecursion P more → AllByRecursion P (front ++ last ∷ more)
@@ -80,7 +80,7 @@ pub record IsLost (h : History) (opened : Opened) (looks : List Look) : Type 0 w
   pub lost_are : lost_looks h looks ≡ fall ∷ later
   pub other : HasOtherKey opened.rule opened.begin.key opened.begin.path opened.file later
 
--- ---- by where the file stands
+-- ---- by the state of the file
 
 -- where the identity reads the file, or does not
 by_reading : (identity : IdentityRule) → (loses_key_at Asks identity ≡ true) ⊎ IsNoFingerprint identity
@@ -131,7 +131,7 @@ module _ (h : History) (opened : Opened) (told : TailHistory) (file_is : told.fi
             other = moved (λ rule key path f. HasOtherKey rule key path f fallen_so.later) behind.other;
           }
 
-  -- ---- what was told as it was asked for its key stands first
+  -- ---- what was reported as it was asked for its key comes first
 
   module _ (asked : List Look) (before : h.before ≡ asked) (gave : GivesKey opened.rule opened.begin.key opened.begin.path opened.file asked) where
     abbrev Has : List Look → Type 0
@@ -210,7 +210,7 @@ module _ (h : History) (opened : Opened) (told : TailHistory) (file_is : told.fi
         read_in looked.since [] (all_kept h told.looks keeps ∙ looks_are ∙ ap (λ (l : List Look). looked.since ++ l) nothing ∙ append-nil looked.since) since_segments tt tt
         (inl (none_lost h told.looks keeps))
 
-    -- where the length was below what was read at last, and only the key was asked behind
+    -- where the length was below what was read at last, and only the key was asked after
     module _ (fallen_so : HasFallen h looked.beyond) where
       abbrev fell_at : List Look
       fell_at = looked.since ++ fallen_so.fall ∷ fallen_so.later
@@ -275,7 +275,7 @@ module _ (h : History) (opened : Opened) (told : TailHistory) (file_is : told.fi
             (all_looks behind.fallen) behind.fallen.asks behind.fallen.only_reads)
         by_stage Over is may behind = absurd may
 
-    -- wherever the file stands
+    -- whatever the state of the file
     pub read_so : IsReadSo h opened told.looks
     read_so = by_stage h.stage refl looked.stand_behind
       where

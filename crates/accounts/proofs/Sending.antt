@@ -1,5 +1,5 @@
--- Only told events are sent: what goes out over a link is of parcels that its worker took, each of which is of an event that a file
--- told, and none was taken twice.
+-- Only reported events are sent: what goes out over a link is of parcels that its worker took, each of which is of an event that a file
+-- reported, and none was taken twice.
 use Rattle.std.proofs.Common.{◌≡◌, ℕ, List, [], ◌∷◌, ◌++◌, Contains, map, Option, Some, refl, sym, ap, subst, ◌∙◌, append-nil}
 use Rattle.std.specs.List.{AllByRecursion, flat_map}
 use Rattle.std.proofs.lemmas.List.Elements.{Contains-append_left, Contains-append_right}
@@ -66,7 +66,7 @@ same_bytes (window ∷ windows) =
     ap (λ (l : List (List ℕ)). window_bytes l ++ flat_map (λ (w : List Sending). window_bytes (sent.payloads_of w)) (sendings_of windows)) (same_payloads window)
     ∙ ap (λ (l : List ℕ). window_bytes (payloads_of window) ++ l) (same_bytes windows)
 
--- where their events are told
+-- where their events are reported
 places_of_window : (window : List Parcel) → map (λ (sending : Sending). sending.of) (map sending_of window) ≡ map told_at window
 places_of_window [] = refl
 places_of_window (parcel ∷ window) = ap (λ (l : List ToldAt). told_at parcel ∷ l) (places_of_window window)
@@ -85,7 +85,7 @@ places_of_windows (window ∷ windows) =
 -- ---- parcels of files
 
 module _ (files : List Turned) (apart : AreDistinct (map (λ (turned : Turned). turned.slot.0) files)) (epochs : AllByRecursion IsInEpochs files) where
-  -- where its event is told says which parcel it is
+  -- where its event is reported says which parcel it is
   known_by_place : (parcel other : Parcel) → IsParcelOf files parcel → IsParcelOf files other → told_at parcel ≡ told_at other → parcel ≡ other
   known_by_place parcel other of and same =
       let slots : of.turned.slot.0 ≡ and.turned.slot.0 =

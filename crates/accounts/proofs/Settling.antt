@@ -1,5 +1,5 @@
--- Where as many spans are settled as files told and every note is collected, all that they told is acknowledged or dropped; and how
--- the books of rounds, list by list, fit what files told.
+-- If as many spans are settled as files reported and every note is collected, all that they reported is acknowledged or dropped; and how
+-- the books of rounds, list by list, fit what files reported.
 use Rattle.std.proofs.Common.{◌≡◌, ℕ, ◌+◌, ◌≤◌, Bool, true, false, cond, List, [], ◌∷◌, ◌++◌, length, refl, ap, ◌∙◌, arith}
 use Rattle.std.specs.Prelude.{count_by}
 use Rattle.std.specs.List.{flat_map}

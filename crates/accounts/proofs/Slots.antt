@@ -1,4 +1,4 @@
--- A tail that followed a slot's file, by what it told: it kept the file's key as far as it is said to have, and its looks read its epochs so.
+-- A tail that followed a slot's file, by what it reported: it kept the file's key as far as it is said to have, and its looks read its epochs so.
 use Rattle.std.proofs.Common.{ℕ, List, [], ◌∷◌, ◌++◌, Some, sym, subst}
 use Rattle.file_identity.specs.AskedAgain.{GivesKey}
 use Rattle.file_looks.specs.Looks.{AreLooks}
@@ -28,7 +28,7 @@ looks_before file before (look ∷ xs) ys are = (are.0, looks_before file look.s
 pub kept_are_looks : (h : History) (file : File) (before : Sight) (looks : List Look) → AreLooks file before looks → AreLooks file before (kept_looks h looks)
 kept_are_looks h file before looks are = looks_before file before (kept_looks h looks) (lost_looks h looks) (subst (AreLooks file before) (sym (parts_together h looks)) are)
 
--- its tail tells both parts
+-- its tail reports both parts
 pub tells_both : (run : Run) (opened : Opened) (h : History) (looks : List Look) → IsTail run.trace opened.opening opened.begin.path opened.number looks →
     IsTail run.trace opened.opening opened.begin.path opened.number (kept_looks h looks ++ lost_looks h looks)
 tells_both run opened h looks tail = subst (IsTail run.trace opened.opening opened.begin.path opened.number) (sym (parts_together h looks)) tail

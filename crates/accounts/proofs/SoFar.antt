@@ -1,4 +1,4 @@
--- What is known of a run's files as it ends, by how they were opened and what was told of them: joined, they have their notes and fit the
+-- What is known of a run's files as it ends, by how they were opened and what was reported of them: joined, they have their notes and fit the
 -- books.
 use Rattle.std.proofs.Common.{◌≡◌, inl, inr, ℕ, ◌≤◌, List, [], ◌∷◌, Contains, map, Option, None, sym, ap, subst, ◌∙◌}
 use Rattle.std.specs.List.{AllByRecursion, flat_map}

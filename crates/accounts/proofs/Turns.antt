@@ -1,4 +1,4 @@
--- Slots that take no turns: where no two of them have one key, nothing is asked of the order in which they came and went; and hidden rows whose slots
+-- Slots that take no turns: if no two of them have one key, nothing is asked of the order in which they came and went; and hidden rows whose slots
 -- are all greater than those of files are beside them.
 use Rattle.std.proofs.Common.{◌≡◌, ◌≢◌, ◌⊎◌, inl, inr, ℕ, ◌<◌, ◌≤◌, List, [], ◌∷◌, map, Option, sym, ap, ◌∙◌, arith}
 use Rattle.std.specs.List.{AllByRecursion, Contains}
@@ -19,7 +19,7 @@ use Rattle.accounts.proofs.Grounded.{of_map}
 use Rattle.accounts.proofs.HiddenSlots.{has_with_hidden, hidden_from}
 use Rattle.accounts.proofs.Orderly.{member_is, same_item}
 
--- ---- behind all files
+-- ---- after all files
 
 from_none : (least : ℕ) (hiddens : List Hidden) → AreHiddenFrom least hiddens → AreHiddenFrom 0 hiddens
 from_none least [] rise = tt
@@ -82,7 +82,7 @@ module _ (run : Run) (files : List Filed) (hiddens : List Hidden) (notes : List 
 abbrev IsNoNewer : Hidden → SlotAccount → Type 0
 IsNoNewer hidden other = key_of other ≡ hidden_key hidden → slot_of other ≤ hidden_slot hidden
 
--- the slot of a hidden row is the newest one of its key, where no file has it
+-- the slot of a hidden row is the newest one of its key, if no file has it
 pub hidden_is_newest : (files : List Filed) (hiddens : List Hidden) → AreDistinct (map hidden_key hiddens) →
     ((file : Filed) → Contains files file → (hidden : Hidden) → Contains hiddens hidden → key_in file ≢ hidden_key hidden) → (placed : Parcel → Option Place) (hidden : Hidden) → Contains hiddens hidden →
     AllByRecursion (λ (other : SlotAccount). key_of other ≡ hidden_key hidden → slot_of other ≤ hidden_slot hidden) (with_hidden (accounts_of placed files) hiddens)

@@ -1,4 +1,4 @@
--- A run that ended before it scanned is accounted for by no account: it follows nothing and sent nothing, and its rows stand as opened.
+-- A run that ended before it scanned is accounted for by no account: it follows nothing and sent nothing, and its rows are as opened.
 use Rattle.std.proofs.Common.{◌≡◌, List, [], ◌∷◌, ◌++◌, Option, length, map, sym, ap, subst, ◌∙◌}
 use Rattle.std.specs.List.{AllByRecursion, filter_map, flat_map}
 use Rattle.kept_rows.specs.Acknowledged.{open_talks, talk_of}

@@ -1,4 +1,4 @@
--- A worked account: two plain lines that were read to their end, acknowledged in one talk. It is the one that stands in `kept_rows`.
+-- A worked account: two plain lines that were read to their end, acknowledged in one talk. It is the one that is in `kept_rows`.
 use Rattle.std.proofs.Common.{◌≡◌, ℕ, ◌==◌, true, false, List, [], ◌∷◌, Option, None, Some, codes, if◌then◌else◌, refl}
 use Rattle.harvester.specs.History.{Ended, History, Telling}
 use Rattle.kept_rows.proofs.Worked as worked

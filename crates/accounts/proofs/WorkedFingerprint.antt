@@ -52,7 +52,7 @@ asked = look (ReadAt 0 2) ∷ []
 abbrev file : Filed
 file = file_by input.paths (Fingerprint 0 2) None key 3 asked
 
--- what the listing of another run told
+-- what the listing of another run reported
 abbrev listing : Event
 listing = unwrap_or (slice_get worked.trace.events 1) ListingFailed
 
@@ -131,7 +131,7 @@ first_path = record {
       worked.not_before_itself (ap (λ (p : List ℕ). compare p a_log) same ∙ less);
 }
 
--- ---- its asking met no fault
+-- ---- its asking hit no fault
 
 asked_well : WasAskedWell run scan asking
 asked_well = record {
@@ -151,7 +151,7 @@ is_told = record {
   };
 }
 
--- a scan that opened nothing for a fingerprint is not told so
+-- a scan that opened nothing for a fingerprint is not reported this way
 pub unopened_is_refused : IsToldScan run (record scan { askings = record asking { opening = None } ∷ [] }) → ⊥
 unopened_is_refused told =
     let asked = told.asks_in_order.each.0 in
@@ -332,7 +332,7 @@ changed = record file.turned.history { stage = Changed }
 pub another_key_parts_the_looks : (kept_looks changed (since ++ lost) ≡ since) × (lost_looks changed (since ++ lost) ≡ lost)
 another_key_parts_the_looks = (refl, refl)
 
--- so they are while the key was not told yet
+-- so they are while the key was not reported yet
 abbrev asks_again : History
 asks_again = record file.turned.history { stage = Asks }
 

@@ -96,7 +96,7 @@ only_key other shows =
 
 key_is_hidden : ShowsKey the_run scan (hidden_key hidden) → ⊥
 key_is_hidden shows =
-    -- the letters behind the folder's name
+    -- the letters after the folder's name
     let letters : 98 ≡ 97 = ap (λ (l : List ℕ). get_or l 24 0) (only_key (hidden_key hidden) shows) in
     omega (arith, letters)
 
@@ -118,7 +118,7 @@ may_go = record {
 may_all_go : MayAllGo the_run (hidden ∷ [])
 may_all_go = record { each = (may_go, tt); apart = (none_there (hidden_key hidden), tt) }
 
--- its slot stands behind that of the other file
+-- its slot follows that of the other file
 abbrev behind : SlotAccount
 behind = record {
   following = record { slot = 1; input = 0; key = path_key (codes "w") b_log; epoch = 2; base = 7; known_from = 0; gone_after = Some 0; tails = [] };
@@ -133,7 +133,7 @@ slot_is_behind = refl
 absent_row_is_rightly_lost : IsRightlyLost the_run (slot_account ∷ behind ∷ []) wires (path_key (codes "w") b_log)
 absent_row_is_rightly_lost = lost the_run (hidden ∷ []) may_all_go (slot_account ∷ []) wires hidden (first_there hidden []) ((λ same. omega arith), ((λ same. omega arith), tt))
 
--- a greater slot of a file stands behind it
+-- a greater slot of a file follows it
 slot_is_between : with_hidden (slot_account ∷ record slot_account { following = record following { slot = 5 } } ∷ []) (hidden ∷ [])
     ≡ slot_account ∷ behind ∷ record slot_account { following = record following { slot = 5 } } ∷ []
 slot_is_between = refl

@@ -1,5 +1,5 @@
--- Two worked runs in a row: a crash left the row behind the first of two plain lines, though both were acknowledged; the run behind it
--- read the second line again and ended with the row behind that. A row within a line is none of it, and a run that tells from the
+-- Two worked runs in a row: a crash left the row after the first of two plain lines, though both were acknowledged; the run after it
+-- read the second line again and ended with the row after that. A row within a line is none of it, and a run that reports from the
 -- first byte again takes nothing up.
 use Rattle.std.proofs.Common.{◌≡◌, inl, inr, ℕ, zero, suc, ◌≤◌, true, false, List, [], ◌∷◌, ◌++◌, Contains, Option, Some, None, unwrap_or, refl, sym, ap, ◌∙◌, subst, arith, append-nil, lit≤, codes}
 use Rattle.std.specs.Prelude.{slice_get}
@@ -100,7 +100,7 @@ talk = record { pieces = Out (window_bytes payloads) ∷ In (frame_bytes (Ack 1)
 abbrev wires : List WireTold
 wires = record { outcomes = Finished talk 0 0 ∷ []; open_talk = None } ∷ []
 
--- what the earlier run's listing told
+-- what the earlier run's listing reported
 abbrev listing : Event
 listing = unwrap_or (slice_get worked.trace.events 1) ListingFailed
 
@@ -415,7 +415,7 @@ none_within_a_line bytes up = closes_nowhere up.reached_is
         by_front is.closes.front is.closes.rest (ap (λ (epoch : EpochAccount). epoch.told) same ∙ is.closes.told_is)
         (subst (λ (epoch : EpochAccount). last_end epoch.start (spans_of is.closes.front) ≡ 3) (sym same) is.closes.ends)
 
--- a run that tells the row's epoch from the first byte again, whatever its account
+-- a run that reports the row's epoch from the first byte again, whatever its account
 pub none_from_the_first_byte : (again : AccountedRun) (bytes : List ℕ) (reached : Row) → (up : TakesUp earlier again bytes left reached) → up.reached_is.epoch.start ≡ 0 → ⊥
 none_from_the_first_byte again bytes reached up from_zero =
     let there = (adjoin_by_accounts earlier again bytes left reached up).from_there in

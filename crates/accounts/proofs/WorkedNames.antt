@@ -1,5 +1,5 @@
--- A worked history of a file that is not read once: a turn tells its first line, a scan shows it by another path, and a turn tells its second
--- line by that. And what is refused: an event that was told by the path before the file had it, or by one that no scan showed; a file
+-- A worked history of a file that is not read once: a turn reports its first line, a scan shows it by another path, and a turn reports its second
+-- line by that. And what is refused: an event that was reported by the path before the file had it, or by one that no scan showed; a file
 -- that might be ended, though it was not removed; a harvester that rests while its file's key is asked.
 use Rattle.std.proofs.Common.{◌≡◌, inl, inr, ℕ, ◌+◌, Bool, true, false, List, [], ◌∷◌, ◌++◌, codes, get_or, refl, sym, ap, subst, ◌∙◌, arith}
 use Rattle.std.specs.List.{AllByRecursion}
@@ -104,11 +104,11 @@ module _ (moments : List ℕ) where
 rests_while_its_key_is_asked : (once : Bool) (history : History) → history.stage ≡ Asks → IsAtItsEnd once history → ⊥
 rests_while_its_key_is_asked once history asks is = subst AsksNothing asks is.asks_nothing
 
--- where files are read once, one that reads on is not at rest
+-- if files are read once, one that reads on is not at rest
 rests_while_it_reads_on : (history : History) → history.stage ≡ Reads → IsAtItsEnd true history → ⊥
 rests_while_it_reads_on history reads is = let no : Reads ≡ Ended = sym reads ∙ (is.told refl).ended in cc
 
--- but at its file's end it is, where that is read on
+-- but at its file's end it is, if that is read on
 pub rests_and_reads_on : (history : History) → history.stage ≡ Reads → history.ends ≡ false → IsAtItsEnd false history
 rests_and_reads_on history reads none = record {
   asks_nothing = subst AsksNothing (sym reads) tt;

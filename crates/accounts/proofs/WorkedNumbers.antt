@@ -55,7 +55,7 @@ two_are_all = record { each = (inl refl, (inr refl, tt)); together = refl }
 
 -- ---- places that are refused
 
--- where no talk was told
+-- where no talk was reported
 untold_place_is_refused : (payload : List ℕ) (place : Place) → IsPlacedAs [] (ShippedAs payload) (Some place) → ⊥
 untold_place_is_refused payload place is = absurd (let q : None ≡ Some is.wire = is.wire_is in cc)
 

@@ -1,5 +1,5 @@
--- What worked accounts of a file that was opened twice share: two scans list it. Its first tail told one line, and was closed where it
--- read on, before the second scan; its second tail told one line, and reads on at its file's end.
+-- What worked accounts of a file that was opened twice share: two scans list it. Its first tail reported one line, and was closed where it
+-- read on, before the second scan; its second tail reported one line, and reads on at its file's end.
 use Rattle.std.proofs.Common.{◌≡◌, ◌≢◌, inl, inr, ℕ, ◌==◌, ◌<◌, List, [], ◌∷◌, ◌++◌, Contains, drop, length, Option, None, Some, codes, if◌then◌else◌, refl, sym, ap, subst, take, false, ◌∙◌, arith, lit≤, length-append, true}
 use Rattle.std.specs.Option.{unwrap_or}
 use Rattle.std.specs.Prelude.{slice_get}
@@ -53,7 +53,7 @@ pub record Twice : Type 0 where
   pub identity : IdentityRule
   pub numbers : Option (ℕ × ℕ)
   pub key : List ℕ
-  -- its lives behind that of two lines
+  -- its lives after that of two lines
   pub later_lives : List (List ℕ)
   -- how the second scan lists it
   pub path : List ℕ
@@ -130,7 +130,7 @@ module _ (own : Twice) where
   abbrev first_turned : Turned
   first_turned = record { slot = record { 0 = 0 }; history = first_history }
 
-  -- the second one, with what it told
+  -- the second one, with what it reported
   abbrev pub next_event : ToldEvent
   next_event = record first_event { span = own.line.span; path = own.path; fate = own.fate }
 
@@ -236,7 +236,7 @@ module _ (own : Twice) (no_bytes : IsNoFingerprint own.identity) (path : List �
         not_before_itself (ap (λ (p : List ℕ). compare p path) same ∙ less);
   }
 
--- where no byte is read for the key, it is the one that the entry names
+-- if no byte is read for the key, it is the one that the entry names
 gives_key : (identity : IdentityRule) (numbers : Option (ℕ × ℕ)) (lives : List (List ℕ)) (key path : List ℕ) → IsNoFingerprint identity →
     named_key (codes "w") identity path numbers ≡ Some key →
     GivesKey (record worked.input { paths = paths; file_identity = identity }) key path (record { numbers = numbers; lives = lives }) []
@@ -244,9 +244,9 @@ gives_key (Fingerprint offset count) numbers lives key path no_bytes named = abs
 gives_key Native numbers lives key path no_bytes named = record { asking = refl; gave = named }
 gives_key Path numbers lives key path no_bytes named = record { asking = refl; gave = named }
 
--- ---- what its tails told
+-- ---- what its tails reported
 
--- one line of bytes that stand at a place of a life
+-- one line of bytes that are at a place of a life
 module _ (path : List ℕ) (in_life : List ℕ) (line : Line) (more : List ℕ) (fate : Fate) (bytes : List ℕ)
     (there : drop line.span.start in_life ≡ bytes ++ more) (cut : complete_lines lines line.span.start (bytes ++ more) ≡ line ∷ complete_lines lines line.span.end more)
     (ends : row_end line.span.start (line ∷ []) ≡ line.span.end) (fate_is : fate_of plain path line.span.start (message_of plain.events (line ∷ [])) 0 ≡ fate) where
@@ -416,12 +416,12 @@ module _ (own : Twice) (no_bytes : IsNoFingerprint own.identity) (named : named_
     removed = tt;
   }
 
--- ---- where it goes on from the told end, in the same epoch
+-- ---- where it goes on from the reported end, in the same epoch
 
 abbrev pub next_looks : List Look
 next_looks = look_at worked.sight Length ∷ look_at worked.sight (ReadAt 2 2) ∷ look_at worked.sight Length ∷ look_at worked.sight (ReadAt 4 0) ∷ []
 
--- listed with four bytes, of which two were told
+-- listed with four bytes, of which two were reported
 abbrev pub going_on : IdentityRule → Option (ℕ × ℕ) → List ℕ → List ℕ → Fate → Twice
 going_on identity numbers key path fate = record {
   identity = identity;

@@ -153,7 +153,7 @@ told = record {
   gone = (row_goes, tt);
 }
 
--- so it is accounted for, and its row went rightly: all that was told is settled
+-- so it is accounted for, and its row went rightly: all that was reported is settled
 pub accounted : IsAccountedFor run (gone_file ∷ []) [] (worker ∷ []) notes told
 accounted = is_accounted_for run (gone_file ∷ []) [] (worker ∷ []) notes told
 
@@ -176,7 +176,7 @@ leaves_with_its_row none = let q : Some (record { key = worked.key; path = a_log
 
 -- ---- what is refused
 
--- a Forget below what was told, by which the row would go with an event that is not settled
+-- a Forget below what was reported, by which the row would go with an event that is not settled
 abbrev pub early : Note
 early = Forget (record { 0 = 0 }) (record { 0 = 0 }) 2
 

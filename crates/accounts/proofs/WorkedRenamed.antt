@@ -1,5 +1,5 @@
 -- A worked account of a file that was renamed between two openings: its input knows files by their native numbers, so it goes on in the
--- same epoch from the end of what was told, and its later event has the later path.
+-- same epoch from the end of what was reported, and its later event has the later path.
 use Rattle.std.proofs.Common.{◌≡◌, ℕ, List, [], ◌∷◌, Some, codes, map, refl, ap, arith, lit≤}
 use Rattle.std.specs.Char.{encode_utf8}
 use Rattle.std.specs.Str.{chars, is_utf8}

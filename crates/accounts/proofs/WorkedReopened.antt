@@ -1,4 +1,4 @@
--- A worked account of a file that was closed and opened again in the same epoch: it goes on from the end of what was told, not from where
+-- A worked account of a file that was closed and opened again in the same epoch: it goes on from the end of what was reported, not from where
 -- it was begun. And openings that are refused. A file that shrank between its openings is in WorkedShrunk, one that was renamed in
 -- WorkedRenamed.
 use Rattle.std.proofs.Common.{◌≡◌, inl, inr, ℕ, ◌<◌, nat_le, Bool, true, false, List, [], ◌∷◌, None, Some, codes, if◌then◌else◌, refl, ap, arith}
@@ -56,7 +56,7 @@ module _ (run : Run) (last : Opening) where
       IsReopened run (first_opened same_epoch) last (first_history same_epoch) next → ⊥
   refused_from next refuse is = refuse (goes_on_from 0 2 is.shown.shown.entry.size next.opened.begin.epoch.0 next.opened.begin.base is.starts)
 
-  -- from the offset of its row, or where it was begun: the first event would be told twice
+  -- from the offset of its row, or where it was begun: the first event would be reported twice
   reopened_at_the_row : IsReopened run (first_opened same_epoch) last (first_history same_epoch) (begun_at (record { epoch = 0; base = 0 })) → ⊥
   reopened_at_the_row is = refused_from (begun_at (record { epoch = 0; base = 0 })) by_case is
     where
@@ -64,7 +64,7 @@ module _ (run : Run) (last : Opening) where
       by_case (inl same) = let n : 0 ≡ 2 = same.1 in omega (arith, n)
       by_case (inr next) = let n : 0 ≡ 1 = next.0 in omega (arith, n)
 
-  -- behind what was told: a byte would be passed by
+  -- after what was reported: a byte would be passed by
   reopened_behind_the_told_end : IsReopened run (first_opened same_epoch) last (first_history same_epoch) (begun_at (record { epoch = 0; base = 3 })) → ⊥
   reopened_behind_the_told_end is = refused_from (begun_at (record { epoch = 0; base = 3 })) by_case is
     where
@@ -72,7 +72,7 @@ module _ (run : Run) (last : Opening) where
       by_case (inl same) = let n : 3 ≡ 2 = same.1 in omega (arith, n)
       by_case (inr next) = let n : 0 ≡ 1 = next.0 in omega (arith, n)
 
-  -- in the same epoch, though the file was listed with less than was told
+  -- in the same epoch, though the file was listed with less than was reported
   same_epoch_after_a_cut : (is : IsReopened run (first_opened same_epoch) last (first_history same_epoch) (next_opening same_epoch)) →
       is.shown.shown.entry.size < 2 → ⊥
   same_epoch_after_a_cut is less = by_case (nat_le 2 is.shown.shown.entry.size) refl is.starts

@@ -45,7 +45,7 @@ use Rattle.accounts.specs.Watched.{watch_in}
 use Rattle.accounts.proofs.Worked.{begin, history, opened, telling}
 use Rattle.accounts.proofs.Turns.{apart_take_turns}
 
--- ---- what was told of its file
+-- ---- what was reported of its file
 
 -- of a life that goes on with the two lines
 module _ (more : List ℕ) where
@@ -73,7 +73,7 @@ module _ (more : List ℕ) where
     );
   }
 
--- with any globs and any identity, the numbers of its file, its key, the place of its opening, and what its tail told as it was asked for the key
+-- with any globs and any identity, the numbers of its file, its key, the place of its opening, and what its tail reported as it was asked for the key
 module _ (globs : List (List ℕ)) (identity : IdentityRule) (numbers : Option (ℕ × ℕ)) (key : List ℕ) (opening : ℕ) (asked : List Look) where
   abbrev rule_by : InputRule
   rule_by = record worked.input { paths = globs; file_identity = identity }
@@ -246,7 +246,7 @@ has_talks idles faults = record {
   );
 }
 
--- the keeper was told the Begin, and then collected the settlements
+-- the Begin was reported to the keeper, which then collected the settlements
 abbrev pub notes_by : List ℕ → RunNotes
 notes_by key = record { told = first_by key; collected = collected; all = first_by key ++ collected }
 

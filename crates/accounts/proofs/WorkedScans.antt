@@ -123,7 +123,7 @@ first_path = record {
       worked.not_before_itself (ap (λ (p : List ℕ). compare p a_log) same ∙ less);
 }
 
--- ---- as they were told
+-- ---- as they were reported
 
 empty_asked : AreAsked run empty
 empty_asked other input rule shows is covered = absurd (none_there other (entries_of 0 [] (lists []) other refl shows))

@@ -1,4 +1,4 @@
--- A worked account of a file that shrank between two openings: the second scan lists it with one byte, less than was told, and it is told
+-- A worked account of a file that shrank between two openings: the second scan lists it with one byte, less than was reported, and it is reported
 -- from its first byte on in the next epoch.
 use Rattle.std.proofs.Common.{◌≡◌, ℕ, ◌≤◌, List, [], ◌∷◌, None, Some, codes, inl, refl, lit≤}
 use Rattle.event_tree.specs.declared.input_rule.IdentityRule.TheVariants.{Path}
@@ -42,7 +42,7 @@ shrunk = record {
   fate = ShippedAs (payload (codes "0") (codes "a"));
 }
 
--- ---- what its second tail told
+-- ---- what its second tail reported
 
 is_telling : IsTelling (rules_in (next_history shrunk)) (next_history shrunk).present
 is_telling in_life has = one_line_is_told a_log in_life shrunk.line has.more shrunk.fate shrunk.bytes has.behind refl refl first_fate
@@ -96,7 +96,7 @@ pub two_epochs_by_two_tails : (account_of placed (filed shrunk)).epochs
     ∷ []
 two_epochs_by_two_tails = refl
 
--- its first line is told in each of them
+-- its first line is reported in each of them
 pub one_event_in_each_epoch : parcels_told (turned_in (filed shrunk))
     ≡ record { slot = record { 0 = 0 }; epoch = record { 0 = 0 }; span = record { start = 0; end = 2 }; payload = payload (codes "0") (codes "a") }
     ∷ record { slot = record { 0 = 0 }; epoch = record { 0 = 1 }; span = record { start = 0; end = 2 }; payload = payload (codes "0") (codes "a") }

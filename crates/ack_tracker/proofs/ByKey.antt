@@ -45,7 +45,7 @@ slots_at_of (entry ∷ entries) key = by_case (is_at (compare key) entry.0) (slo
 
 -- ---- the row that was kept of a key
 
--- keys behind this one
+-- keys after this one
 abbrev IsFirst : List ℕ → List (List ℕ) → Type 0
 IsFirst key keys = AllByRecursion (λ (other : List ℕ). compare key other ≡ Less) keys
 

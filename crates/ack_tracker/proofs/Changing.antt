@@ -108,7 +108,7 @@ module _ (files : List (ℕ × FileState)) (slots : List (List ℕ × List ℕ))
           by_latest (latest_of files key None (slots_at slots key)) refl (let r : option_and_then (row_at files) (latest_of files key None (slots_at slots key)) ≡ Some row = cc in r)
       by_begun false e = absurd (let q : None ≡ Some (Some row) = e in cc)
 
-  -- an operation removes its key's row, or sets the one that stands
+  -- an operation removes its key's row, or sets the one that is there
   told_now : (P : Op → Type 0) (key : List ℕ) (was : Option Row) (op : Op) → P (Remove key) → ((row : Row) → IsStanding files key row → P (Set row)) → change_now files slots (key, was) ≡ Some op → P op
   told_now P key was op removed set e = by_now (row_now files (slots_at slots key) key) refl e
     where

@@ -67,7 +67,7 @@ module _ (spans : List Extent) (base : ℕ) (covered : Covered) (span : Extent) 
   led_on : (start middle end : ℕ) → IsLed longer start middle → IsLed longer middle end → IsLed longer start end
   led_on start middle end one two = record { via = one.via ++ two.via; lead = lead_on longer start one.via middle two.via end one.lead two.lead }
 
-  -- an interval that begins behind the span's start begins behind the span
+  -- an interval that begins after the span's start begins after the span
   behind : (start end : ℕ) → interval_at covered.ahead start ≡ Some end → span.start < start → span.end ≤ start
   behind start end is lt =
       let interval = covers.settled start end is in

@@ -1,4 +1,4 @@
--- The greatest of a key's slots that stand.
+-- The greatest of a key's slots whose rows are there.
 use Rattle.std.proofs.Common.{◌≡◌, ◌⊎◌, inl, inr, ℕ, ◌≤◌, Bool, true, false, max, List, [], ◌∷◌, Contains, Option, Some, None, if◌then◌else◌, refl, sym, ap, ◌∙◌, subst, arith}
 use Rattle.std.specs.Str.{bytes_eq}
 use Rattle.std.proofs.lemmas.Bool.{and_from, and_parts, cases_lt}
@@ -120,7 +120,7 @@ module _ (files : List (ℕ × FileState)) (key : List ℕ) where
             others = λ other there stand. elim (there_cases first other slots there) [ inl same ↦ absurd (let q : false ≡ true = sym is ∙ ap stands_at same ∙ stand in cc) | inr behind ↦ found.others other behind stand ];
           }
 
-  -- where one of them stands, one of them began
+  -- if the row of one of them is there, one of them began
   pub latest_begun : (slots : List ℕ) (slot : ℕ) → latest_of files key None slots ≡ Some slot → is_begun files key slots ≡ true
   latest_begun slots slot e = by_from (latest_some slots None slot e).from (is_begun files key slots) refl
     where

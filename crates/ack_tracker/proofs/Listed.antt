@@ -240,7 +240,7 @@ module _ (files : List (ℕ × FileState)) (notes : List Note) (are : AreOf file
   pub place_some : Stays → GoesOn → AreOrderly notes → (file : FileState) → file_of files slot ≡ Some file → place_over slot notes ≡ place_in file
   place_some stays goes orderly file is = ap place_shown (row_some stays goes orderly file is) ∙ place_is file
 
-  -- none where it is gone, and some where it is not
+  -- none if it is gone, and some where it is not
   module _ (file : FileState) (is : file_of files slot ≡ Some file) where
     pub kept_not : is_gone file ≡ false → Contains (gone_among files) slot → ⊥
     kept_not kept there =

@@ -13,7 +13,7 @@ use Rattle.lumber_client.specs.Standing.{StandsFor}
 use Rattle.lumber_client.proofs.Alike.{pieces_join}
 use Rattle.batch_worker.specs.Feeding.{with_bytes}
 
--- the first so many bytes were given, and none of them made a fault
+-- this many of the first bytes were given, and none of them made a fault
 pub record FeedsOn (old new : Held) (bytes : List ℕ) (number : ℕ) : Type 0 where
   pub kept : KeepsParcels old new
   pub fewer : length new.flights ≤ length old.flights

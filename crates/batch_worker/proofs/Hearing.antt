@@ -1,4 +1,4 @@
--- What is heard of a peer keeps what a worker's calls keep; behind a fault the link may be finished.
+-- What is heard of a peer keeps what a worker's calls keep; after a fault the link may be finished.
 use Rattle.std.proofs.Common.{◌≡◌, ℕ, zero, suc, ◌<◌, ◌≤◌, ◌↔◌, Bool, true, false, cond, IsTrue, List, [], ◌∷◌, ◌++◌, length, take, drop, Option, Some, None, IfSome, refl, sym, ap, subst, ◌∙◌, append_assoc, append-nil, arith}
 use Rattle.std.proofs.lemmas.List.{take-append-drop}
 use Rattle.lumber_client.specs.Exchange.{Exchange, acknowledged_in, anew, payloads_of, with_talk}
@@ -76,7 +76,7 @@ gets_talk None after pieces first others bytes some gets has = absurd has
 gets_talk (Some talk) after pieces first others bytes some gets has =
     subst (λ (t : Option Talk). HasTalk t (with_bytes pieces bytes)) (sym gets) (ap (λ (l : List Piece). l ++ In bytes ∷ []) has ∙ sym (with_some pieces first others bytes some))
 
--- behind a fault the talk with all bytes acknowledges the same
+-- after a fault the talk with all bytes acknowledges the same
 behind_fault : (talk : List Piece) (fed : List ℕ) (first : ℕ) (others rest bytes : List ℕ) (payloads : List (List ℕ)) → fed ≡ first ∷ others → bytes ≡ fed ++ rest → HasPeerFault (with_bytes talk fed) → Acknowledges (with_bytes talk fed) payloads → Acknowledges (talk ++ In bytes ∷ []) payloads
 behind_fault talk fed first others rest bytes payloads some are fault read =
     let one = with_some talk first others fed some in

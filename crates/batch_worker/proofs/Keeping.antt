@@ -1,4 +1,4 @@
--- What the calls of a worker keep, one behind the other.
+-- What the calls of a worker keep, one after another.
 use Rattle.std.proofs.Common.{◌≡◌, ◌⊎◌, ℕ, All, Contains, List, [], ◌∷◌, ◌++◌, drop, Option, Some, None, IfSome, refl, sym, ap, subst, ◌∙◌, append_assoc, append-nil, arith, inl}
 use Rattle.std.proofs.lemmas.List.{map-append}
 use Rattle.std.proofs.lemmas.List.Elements.{All-contains_itself, All-weaker}
@@ -49,7 +49,7 @@ since_on [] then failures = refl
 since_on (parcel ∷ first) [] failures = refl
 since_on (parcel ∷ first) (other ∷ then) failures = refl
 
--- ---- nothing happens, and one thing behind the other
+-- ---- nothing happens, and one thing after the other
 
 module _ {L : Type 0} where
   pub keeps_same : (P : ℕ → List Parcel → Type 0) (s : Seen) (w : Working L) → Keeps P P s s w w
@@ -102,7 +102,7 @@ module _ {L : Type 0} where
     failed = then.failed ∙ first.failed;
   }
 
-  -- a failure behind what came before it
+  -- a failure after what came before it
   pub failing_on : (told : L → Option Talk) (Q : ℕ → List Parcel → Type 0) (before after : Seen) (old mid new : Working L) (now : Moment) → Goes (λ start. StandsFor told start old before.outcomes) Q before before old mid
       → (k : Keeps Q (λ start. StandsFor told start new after.outcomes) before after mid new) → k.acknowledged ≡ [] → new.failures ≡ one_failure_more mid.failures → new.failed ≡ now → new.link ≡ None → KeepsMoments now old new → FailsAt told before after old new now
   unfolding keeps_on

@@ -59,7 +59,7 @@ with_refused (Finished talk f i ∷ outcomes) payloads all = record {
 -- ---- the wire's list changes, and the worker's link
 
 module _ {L : Type 0} (told : L → Option Talk) where
-  -- a link that is made stands not in the list yet
+  -- a link that is made is not in the list yet
   pub connecting_tells_none : (link : L) (outcomes now : Option (List Outcome)) (faults : ℕ) → TellsConnecting told outcomes (Ok link) now faults → now ≡ outcomes
   connecting_tells_none link None now faults tells = tells.0
   connecting_tells_none link (Some outcomes) now faults tells = tells.1
@@ -69,7 +69,7 @@ module _ {L : Type 0} (told : L → Option Talk) where
   connecting_tells_unused link None now faults tells = subst (λ (o : Option Talk). IfSome o (λ talk. talk ≡ no_talk)) (sym tells.1) tt
   connecting_tells_unused link (Some outcomes) now faults tells = subst (λ (o : Option Talk). IfSome o (λ talk. talk ≡ no_talk)) (sym tells.0) refl
 
-  -- one that is refused does, where the wire tells
+  -- one that is refused does, if the wire reports
   pub connecting_tells_refusal : (error : Failed) (outcomes now : Option (List Outcome)) (faults : ℕ) → TellsConnecting told outcomes (Err error) now faults → IfSome outcomes (λ list. KeepsRefusal list now faults)
   connecting_tells_refusal error None now faults tells = tt
   connecting_tells_refusal error (Some outcomes) now faults tells = tells

@@ -40,7 +40,7 @@ pub some_out : (outs : List Moment) (out : List ℕ) (flights : ℕ) → length 
 some_out outs out flights are none some = omega (arith, are, ap going_out none, some)
 
 module _ {L : Type 0} (told : L → Option Talk) (faults idles : L → ℕ) where
-  -- ---- a failure behind what came before it
+  -- ---- a failure after what came before it
 
   pub goes_to_end : (a b : Seen) (old mid : Working L) → WorkerGoes told a b old mid → Goes (λ start. StandsFor told start old a.outcomes) (λ start. MayEnd told start mid b.outcomes) a b old mid
   goes_to_end a b old mid g = record {
@@ -225,7 +225,7 @@ module _ {L : Type 0} (told : L → Option Talk) (faults idles : L → ℕ) wher
       let all = ap length (g.keeps.notes_are ∙ ap (λ (l : List Note). g.keeps.posted ++ l) none ∙ append-nil g.keeps.posted) in
       omega (arith, some, all, length-append (owed_by old) (notes_of g.keeps.acknowledged))
 
-  -- ---- the fault of a peer is told
+  -- ---- the fault of a peer is reported
 
   fault_of : (failed : Bool) (e : Exchange) (frame : List ℕ) (window : ℕ) → failed ≡ true → HearsWith failed e frame window → HasPeerFault e.talk
   fault_of true e frame window is h = h

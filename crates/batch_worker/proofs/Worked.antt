@@ -1,5 +1,5 @@
 -- Rests of one second, two seconds and a minute; a peer that is silent since a window was out, or since a byte came; failures
--- behind an acknowledgement; and two parcels of which the first was acknowledged.
+-- after an acknowledgement; and two parcels of which the first was acknowledged.
 use Rattle.std.proofs.Common.{◌≡◌, ℕ, [], ◌∷◌, None, lit<, refl}
 use Rattle.lumber_client.specs.Held.{Held, nothing_held}
 use Rattle.wire_base.specs.declared.note.Cause.TheVariants.{Acked}

@@ -15,7 +15,7 @@ unfolding IsCondition kind_of
 no_table zero value rule none = tt
 no_table (suc levels) value rule none = rw none tt
 
--- where no level is left, there is no condition
+-- if no level is left, there is no condition
 pub no_level : (levels : ℕ) (value : Data) (rule : ConditionRule) → levels ≡ 0 → IsCondition levels value rule
 unfolding IsCondition
 no_level levels value rule none = subst (λ n. IsCondition n value rule) (sym none) tt

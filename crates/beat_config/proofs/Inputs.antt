@@ -1,4 +1,4 @@
--- The ids of inputs, one more behind the others.
+-- The ids of inputs, one more after the others.
 use Rattle.std.proofs.Common.{◌≡◌, ℕ, ◌+◌, Option, List, [], ◌∷◌, ◌++◌, refl, ap, ◌∙◌}
 use Rattle.event_tree.specs.declared.input_rule.InputRule.{InputRule}
 use Rattle.toml.specs.Data.{Data, Items, item}

@@ -8,7 +8,7 @@ pub last_first_count : (count : ℕ) (numbers : List ℕ) → length (last_first
 last_first_count zero numbers = refl
 last_first_count (suc count) numbers = ap suc (last_first_count count numbers)
 
--- a number that is written behind those that are listed changes nothing
+-- a number that is written after those that are listed changes nothing
 pub last_first_other : (count place value : ℕ) (numbers : List ℕ) → count ≤ place → last_first count (set numbers place value) ≡ last_first count numbers
 last_first_other zero place value numbers few = refl
 last_first_other (suc count) place value numbers few =
@@ -17,7 +17,7 @@ last_first_other (suc count) place value numbers few =
     ap (λ number. number ∷ last_first count (set numbers place value)) (get_or-set_other numbers place count value 0 other)
     ∙ ap (λ tail. get_or numbers count 0 ∷ tail) rest
 
--- a number that is written right behind them comes first
+-- a number that is written right after them comes first
 pub last_first_more : (count value : ℕ) (numbers : List ℕ) → count < length numbers → last_first (count + 1) (set numbers count value) ≡ value ∷ last_first count numbers
 last_first_more count value numbers within =
     let more : suc count ≡ count + 1 = omega arith in

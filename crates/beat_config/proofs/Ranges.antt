@@ -93,7 +93,7 @@ hosts_at_within : (low high : ℕ) (key : List ℕ) (found : Option Data) → is
 hosts_at_within low high key None there h = absurd (cc)
 hosts_at_within low high key (Some value) there h = host_list_within low high key (as_array value) h
 
--- where a required table has no fault, each required key is there
+-- if a required table has no fault, each required key is there
 table_at_required : (path : List ℕ) (key : List ℕ) (known : List (List ℕ)) (found : Option Data) → is_some found ≡ true
     → table_at_findings path known (key ∷ []) found ≡ [] → is_some (get_member key (members_at found)) ≡ true
 table_at_required path key known None there h = absurd (cc)

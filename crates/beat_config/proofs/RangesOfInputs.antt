@@ -193,7 +193,7 @@ is_new_text key ids (Some id) there h = elim (cases_Bool (list_any (λ earlier. 
   | inr new ↦ new
 ]
 
--- what an input without a fault behind these ids is
+-- what an input without a fault after these ids is
 record IsNewInput (ids : List (List ℕ)) (rule : InputRule) : Type 0 where
   within : IsInputInRange rule
   new : IsNew ids rule.id
@@ -212,7 +212,7 @@ input_behind path ids value h =
       new = is_new_text (key_path path (codes "id")) ids (text_of (get_member (codes "id") members)) told values.0;
     }
 
--- what inputs without a fault behind these ids are
+-- what inputs without a fault after these ids are
 record AreNewInputs (ids : List (List ℕ)) (count : ℕ) (rules : List InputRule) : Type 0 where
   within : All IsInputInRange rules
   new : All (λ rule. IsNew ids rule.id) rules

@@ -64,7 +64,7 @@ clean_told path members h =
     let older = parts (duration_findings (limits 0 31536000000) (key_path path (codes "ignore_older")) (get_member (codes "ignore_older") members)) _ inactive.1 in
     (parts _ (clean_findings path (times_in members)) older.1).1
 
--- where rows are cleaned, they are cleaned late enough
+-- if rows are cleaned, they are cleaned late enough
 pub late : (path : List ℕ) (times : Times) → clean_findings path times ≡ [] → times.clean_inactive ≢ 0 → times.ignore_older + times.check_interval < times.clean_inactive
 unfolding clean_findings
 late path times h some = elim (and_cases _ _ (not_passed (is_too_soon times) (CleanTooSoon path) h)) [

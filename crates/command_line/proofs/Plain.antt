@@ -67,7 +67,7 @@ named_asks file folder digits count = record {
   generate = (count, refl);
 }
 
--- `--config=FILE --data=DIR --generate=N`, whatever FILE and DIR are, where N is a number of lines
+-- `--config=FILE --data=DIR --generate=N`, whatever FILE and DIR are, if N is a number of lines
 pub named_is_taken : (file folder digits : List ℕ) → IsLineCount digits → IsCommand (named file folder digits) (record {
   settings = file;
   «data» = folder;
@@ -138,7 +138,7 @@ apart_asks file plain dashes =
     subst (λ (w : Walk). AsksFor (finished top.rules (walked top.rules [] w (codes "--once")).held) (once_over file))
     (sym (file_is_a_value file plain dashes)) (known_asks file)
 
--- `-c FILE --once`, where FILE does not begin with a hyphen
+-- `-c FILE --once`, if FILE does not begin with a hyphen
 pub apart_is_taken : (file : List ℕ) → strip_byte 45 file ≡ None → IsCommand (apart_words file) (once_over file)
 apart_is_taken file plain = (apart_has_no_fault file plain (no_dashes file plain), apart_asks file plain (no_dashes file plain))
   where

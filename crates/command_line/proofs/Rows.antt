@@ -64,7 +64,7 @@ source_test f id o b E same other got test =
     subst (λ (x : Bool). IsTrue x ↔ (source_of id (rows_of f) ≡ Some CommandLine)) (sym test)
     (subst (λ (x : Option ValueSource). IsTrue (option_eq E o (Some CommandLine)) ↔ (x ≡ Some CommandLine)) row (is_words E same other o))
 
--- what the rows ask for is what the arguments ask for, where clap takes them
+-- what the rows ask for is what the arguments ask for, if clap takes them
 pub asks_of_words : (words : List (List ℕ)) (rows : List Row) (found : Option Words) → fault_of beat_command words ≡ []
     → rows ≡ matches_of beat_command words → MatchOption found (HasNoCount rows) (AsksFor rows)
     → MatchOption found (IsNoCommand words) (IsCommand words)

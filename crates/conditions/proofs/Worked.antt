@@ -153,7 +153,7 @@ through_a_text : holds (above (codes "text.a") (pos 1)) event ≡ false
 unfolding holds
 through_a_text = refl
 
--- ---- has_fields: something stands there, a null too
+-- ---- has_fields: something is there, a null too
 
 fields_there : holds (HasFields (codes "log.level" ∷ codes "none" ∷ [])) event ≡ true
 unfolding holds

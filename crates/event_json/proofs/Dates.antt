@@ -48,7 +48,7 @@ year_found (suc years) year days found m d is low high count =
           year_on years year days on ∙ year_found years (year + 1) (days - year_days year) found m d is (omega arith) (omega arith) (omega arith)
     ]
 
--- the months from one on, so many of them
+-- the months from one on, this many of them
 months_from : ℤ → ℕ → ℕ → List ℕ
 months_from year month zero = []
 months_from year month (suc months) = days_in_month year month ∷ months_from year (month + 1) months

@@ -21,7 +21,7 @@ escapes_same (b ∷ text) = λ i. escape_same b i ++ escapes_same text i
 quoted_same : (text : List ℕ) → json_quoted text ≡ quoted text
 quoted_same text = ap (λ t. 0x22 ∷ (t ++ 0x22 ∷ [])) (escapes_same text)
 
--- one field, with what stands behind it
+-- one field, with what follows it
 member_text : (k written text rest : List ℕ) → written ≡ text → json_quoted k ++ 0x3A ∷ (written ++ rest) ≡ (quoted k ++ 0x3A ∷ text) ++ rest
 member_text k written text rest same =
     (λ i. quoted_same k i ++ 0x3A ∷ (same i ++ rest)) ∙ sym (append_assoc (quoted k) (0x3A ∷ text) rest)

@@ -54,7 +54,7 @@ moment_printed ms dt e =
     ∙ ap (λ t. date_text (date its.year dt.date.month dt.date.day) ++ (84 ∷ (t ++ 90 ∷ []))) (time_same dt.time (ms % 86_400_000) time)
     ∙ ap (λ d. date_text d ++ (84 ∷ (time_text (ms % 86_400_000) ++ 90 ∷ []))) (sym its.same)
 
--- the printer's options are those, and the instant is so many milliseconds after the epoch
+-- the printer's options are those, and the instant is this many milliseconds after the epoch
 pub text_printed : (ms : ℕ) (dt : DateTime) (lowercase : Bool) (separator : ℕ) (precision : Option ℕ) (text : List ℕ)
     → lowercase ≡ false → separator ≡ 84 → precision ≡ Some 3 → civil_nanos dt ≡ pos ms *ℤ pos 1_000_000
     → text ≡ jiff.datetime_text lowercase separator precision dt ++ jiff.zulu_text lowercase → text ≡ moment_text ms

@@ -64,7 +64,7 @@ fits range ranges c bytes inside = cond-true _ _ _ inside
 fits_not : (range : Range) (ranges : List Range) (c : ℕ) (bytes : List ℕ) → lies_in range c ≡ false → fitting (range ∷ ranges) (c ∷ bytes) ≡ 0
 fits_not range ranges c bytes outside = cond-false _ _ _ outside
 
--- of so many bytes that fit
+-- of this many bytes that fit
 same_by : (b : ℕ) (rest : List ℕ) (ranges : List Range) (k : ℕ) (read given : Decoded) → is_first b ≡ true → behind b ≡ ranges → fitting ranges rest ≡ k
     → suc k ≡ given.size → (k == length ranges) ≡ is_some given.char → read ≡ given → Same b rest read
 same_by b rest ranges k read given first is fit size whole e = record {

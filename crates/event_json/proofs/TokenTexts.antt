@@ -9,7 +9,7 @@ use Rattle.event_json.specs.Json.{json_of}
 use Rattle.event_json.specs.Payload.{within_bound, payload_of_value}
 use Rattle.event_json.proofs.JsonTexts.{value_text}
 
--- some tokens were written behind those that were there, and then some more
+-- some tokens were written after those that were there, and then some more
 pub then : (old written middle new more : List Token) → middle ≡ old ++ written → new ≡ middle ++ more → new ≡ old ++ (written ++ more)
 then old written middle new more first next = next ∙ ap (λ (l : List Token). l ++ more) first ∙ append_assoc old written more
 

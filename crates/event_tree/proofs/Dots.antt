@@ -1,4 +1,4 @@
--- The parts between dots: how far they reach, and where the first empty one stands.
+-- The parts between dots: how far they reach, and where the first empty one is.
 use Rattle.std.proofs.Common.{◌≡◌, ℕ, ◌+◌, ◌<◌, Bool, true, false, cond, List, [], ◌∷◌, ◌++◌, length, get_or, take, drop, Option, Some, None, option_map, refl, sym, ap, ◌∙◌, subst, arith}
 use Rattle.std.specs.List.{onto_first}
 use Rattle.std.specs.Prelude.{◌==◌, ◌≢◌, All}

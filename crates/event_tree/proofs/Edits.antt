@@ -23,7 +23,7 @@ find-unset_not key other ps differs = ap (option_map value_in) (find-without_not
 pub find-unset : (key : List ℕ) (ps : FieldList) → find key (unset_field key ps) ≡ None
 find-unset key ps = ap (option_map value_in) (find-without key_of key ps)
 
--- where the key is not, nothing goes
+-- if the key is not, nothing goes
 pub unset_absent : (key : List ℕ) (ps : FieldList) → find key ps ≡ None → unset_field key ps ≡ ps
 unset_absent key ps lacks = without_absent key_of key ps (no_pair (find_entry key_of key ps) lacks)
   where

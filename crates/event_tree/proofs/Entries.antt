@@ -81,7 +81,7 @@ module _ (es : List (List ℕ × Tree)) (ordered : IsInOrder key_of (pairs_of es
   remove_entry i at =
       map-append pair_of (take i es) (drop (suc i) es) ∙ (λ k. sym (take-map pair_of i es) k ++ sym (drop-map pair_of (suc i) es) k) ∙ keyed.remove_at_place key_of (pairs_of es) key i ordered at
 
-  -- the same where the insertion may be refused
+  -- the same if the insertion may be refused
   pub insert_kept : (i : ℕ) (value : Tree) (made : Bool) (new : List (List ℕ × Tree)) → IsGap key_of (pairs_of es) key i → new ≡ (if made then insert es i (key, value) else es) → IsInOrder key_of (pairs_of new)
   insert_kept i value true new gap is = subst (λ l. IsInOrder key_of (pairs_of l)) (sym is) (subst (IsInOrder key_of) (sym (insert_entry i value gap)) (in_order-set key (value_of value) (pairs_of es) ordered))
   insert_kept i value false new gap is = subst (λ l. IsInOrder key_of (pairs_of l)) (sym is) ordered

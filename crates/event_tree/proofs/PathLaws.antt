@@ -1,4 +1,4 @@
--- What stands at each path after a put or a removal.
+-- What is at each path after a put or a removal.
 use Rattle.std.proofs.Common.{◌≡◌, ◌≢◌, ℕ, suc, ◌<◌, length, arith, List, [], ◌∷◌, Option, Some, None, option_map, refl, sym, ap, ◌∙◌, subst}
 use Rattle.std.specs.Prelude.{option_and_then, unwrap_or}
 use Rattle.std.specs.Option.{option_map_or}
@@ -156,7 +156,7 @@ free_after_remove (first ∷ to) (part ∷ next ∷ from) v free =
         (ap (λ f. blocked_by (Some f) (blocked_at to)) (find_with part (remove_at (next ∷ from)) ps) ∙ at_child rest (find part ps) (subst (λ k. blocked_by (Some (find k ps)) (blocked_at to) ≡ None) same e)))
         (λ differs. ap (λ f. blocked_by (Some f) (blocked_at to)) (find_with_other part first (remove_at (next ∷ from)) ps differs) ∙ e)
 
--- a path with a part leads nowhere once what stands there is taken out
+-- a path with a part leads nowhere once what is there is taken out
 pub gone_after_remove : (path : Parts) (v : TreeValue) → 0 < length path → get_at path (remove_at path v) ≡ None
 gone_after_remove [] v some = absurd (omega arith)
 gone_after_remove (part ∷ path) v some = get_removed part path v

@@ -72,7 +72,7 @@ short_asked id path numbers offset count place told after printed = by_told told
       gave = (gives.reads, ap (key_if_all id count) (given_same numbers before.file gives.looks ∙ gives.bytes_are) ∙ no_key id count printed.0 printed.1, gives.end);
     }
 
--- ---- refused behind all reads, out of memory, or at one
+-- ---- refused after all reads, out of memory, or at one
 
 part_on : (looks : List Look) (place wanted : ℕ) → ((next left : ℕ) → AreReads looks next left → ArePartReads looks next left) → (question : Question) →
     ReadsOn place wanted (λ next left. AreReads looks next left) (looks ≡ []) question → ReadsOn place wanted (λ next left. ArePartReads looks next left) (looks ≡ []) question

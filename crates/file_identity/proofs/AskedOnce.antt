@@ -1,6 +1,6 @@
 -- The reads of one asking for a fingerprint begin at its offset, and each later one stands above it, as each but a last one
 -- gives bytes. So an asking among the looks of several begins where one of these began, and does not go over into the next:
--- where no earlier one gave the key, and the last one was cut or gave another, none gave it.
+-- if no earlier one gave the key, and the last one was cut or gave another, none gave it.
 use Rattle.std.proofs.Common.{◌≡◌, ◌≢◌, ◌⊎◌, inl, inr, ℕ, zero, suc, ◌+◌, ◌-◌, ◌<◌, List, [], ◌∷◌, ◌++◌, Some, refl, sym, ap, subst, ◌∙◌, arith}
 use Rattle.std.proofs.lemmas.List.{append-nil}
 use Rattle.std.specs.List.{AllByRecursion}
@@ -57,7 +57,7 @@ cut_is_read (Fingerprint offset count) (look ∷ looks) cut = (tt, cut.0)
 cut_is_read Native looks cut = absurd cut
 cut_is_read Path looks cut = absurd cut
 
--- ---- where the reads of an asking stand
+-- ---- where the reads of an asking are
 
 one_place : (place other wanted left : ℕ) (Later More : ℕ → ℕ → Type 0) (NoLater NoMore : Type 0) (question : Question) →
     ReadsOn place wanted Later NoLater question → ReadsOn other left More NoMore question → place ≡ other
@@ -89,7 +89,7 @@ all_above least (look ∷ looks) place wanted behind reads = by look.question lo
     by (ReadAt at (suc more)) sight on later =
         (subst (λ (n : ℕ). least < n) (sym on.0) behind, later (place + suc more) (wanted - suc more) (omega (arith, behind)) on.2)
 
--- behind the first of them
+-- after the first of them
 later_above : (look : Look) (looks : List Look) (place wanted : ℕ) → ArePartReads (look ∷ looks) place wanted → AreAbove place looks
 later_above look looks place wanted reads = by look.question reads.1
   where
@@ -102,14 +102,14 @@ last_above : (place : ℕ) (front back : List Look) → AreAbove place (front ++
 last_above place [] back above = above
 last_above place (look ∷ front) back above = last_above place front back above.1
 
--- ---- where an asking stands among looks
+-- ---- where an asking is among looks
 
--- the looks go on behind the asking
+-- the looks go on after the asking
 record Within (asked looks : List Look) : Type 0 where
   rest : List Look
   are : looks ≡ asked ++ rest
 
--- and it stands behind these
+-- and it follows these
 record Earlier (before asked looks : List Look) : Type 0 where
   rest : List Look
   are : looks ≡ before ++ (asked ++ rest)
@@ -134,7 +134,7 @@ module _ (offset count : ℕ) (more behind : List Look) (reading : ArePartReads 
       cons : Within asked looks → Within (one ∷ asked) (look ∷ looks)
       cons within = record { rest = within.rest; are = ap (λ (l : Look). l ∷ looks) first ∙ ap (λ (l : List Look). one ∷ l) within.are }
 
-  -- behind the first of its reads it does not go over into the next reading, which begins at the offset
+  -- after the first of its reads it does not go over into the next reading, which begins at the offset
   inside : (looks asked : List Look) (place wanted : ℕ) → offset < place → AreReads asked place wanted → looks ++ more ≡ asked ++ behind → Within asked looks
   inside [] [] place wanted above reads same = record { rest = []; are = refl }
   inside [] (one ∷ asked) place wanted above reads same =
@@ -157,7 +157,7 @@ module _ (offset count : ℕ) (more behind : List Look) (reading : ArePartReads 
       let above = last_above offset before ((one ∷ asked) ++ behind) (later_above first (before ++ ((one ∷ asked) ++ behind)) offset count here) in
       not_above offset count (λ next left. AreReads asked next left) (asked ≡ []) one.question reads.1 above.0
 
-  -- an asking stands among the earlier looks, or begins with the reading
+  -- an asking is among the earlier looks, or begins with the reading
   placed : 0 < count → (asked : List Look) → AreReads asked offset count → (before looks : List Look) → looks ++ more ≡ before ++ (asked ++ behind) →
       Earlier before asked looks ⊎ (more ≡ asked ++ behind)
   placed some asked reads [] [] same = inr same

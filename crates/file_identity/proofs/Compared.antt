@@ -43,7 +43,7 @@ lacks_id id digest key behind first lacks is = lacks (kind ++ encode_lower diges
 
 -- ---- what was asked
 
--- the key is this digest's, where the test says so
+-- the key is this digest's, if the test says so
 abbrev pub Tests : Bool → List ℕ → List ℕ → List ℕ → Type 0
 Tests same id digest key = (same ≡ true → key ≡ key_of_digest id digest) × (key ≡ key_of_digest id digest → same ≡ true)
 

@@ -1,4 +1,4 @@
--- Askings that a fault cut, one behind the other: their looks only read, and one more may follow.
+-- Askings that a fault cut, one after another: their looks only read, and one more may follow.
 use Rattle.std.proofs.Common.{◌≡◌, ℕ, zero, suc, ◌+◌, ◌-◌, List, [], ◌∷◌, ◌++◌, refl, sym, ap, subst, ◌∙◌, append_assoc}
 use Rattle.std.proofs.lemmas.List.{append-nil}
 use Rattle.std.specs.Prelude.{flat_map}
@@ -27,7 +27,7 @@ each_with : (rule : IdentityRule) (askings : List (List Look)) (last : List Look
 each_with rule [] last each is = (is, tt)
 each_with rule (asking ∷ askings) last each is = (each.0, each_with rule askings last each.1 is)
 
--- one more, behind them
+-- one more, after them
 pub cut_again : (rule : IdentityRule) (looks more : List Look) → AreCutAskings rule looks → IsCutAsking rule more → AreCutAskings rule (looks ++ more)
 cut_again rule looks more cut last = record {
   askings = cut.askings ++ more ∷ [];

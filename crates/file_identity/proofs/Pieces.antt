@@ -1,4 +1,4 @@
--- The reads of a fingerprint, one piece behind the other.
+-- The reads of a fingerprint, one piece after the other.
 use Rattle.std.proofs.Common.{◌≡◌, ℕ, zero, suc, ◌+◌, ◌-◌, ◌<◌, ◌≤◌, min, true, false, List, [], ◌∷◌, ◌++◌, length, take, drop, Option, Some, None, Result, Ok, Err, IfSome, IsNone, IsSome, refl, sym, ap, subst, ◌∙◌, append_assoc, length-append, length-drop, length-take-le, arith, rules}
 use Rattle.std.proofs.lemmas.List.{append-nil}
 use Rattle.std.proofs.lemmas.List.Concat.{flat_map-append}
@@ -77,7 +77,7 @@ reads_on place wanted (suc more) Later NoLater question is some fits later = sub
 reads_none : (place wanted : ℕ) (Later : ℕ → ℕ → Type 0) (NoLater : Type 0) (question : Question) → question ≡ ReadAt place 0 → NoLater → ReadsOn place wanted Later NoLater question
 reads_none place wanted Later NoLater question is none = subst (λ (q : Question). ReadsOn place wanted Later NoLater q) (sym is) (refl, none)
 
--- what the tail tells with these looks in addition
+-- what the tail reports with these looks in addition
 abbrev with_looks : TailHistory → List Look → TailHistory
 with_looks told looks = record told { looks = told.looks ++ looks }
 

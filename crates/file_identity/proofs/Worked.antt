@@ -71,7 +71,7 @@ ended_before = (lit< tt, (refl, lit≤ tt, (lit< tt, (refl, refl))))
 none_given : given_key (codes "w") (Fingerprint 1 3) (codes "/w/a.log") file (look (ReadAt 1 2) 1 3 ∷ look (ReadAt 3 0) 1 3 ∷ []) ≡ None
 none_given = refl
 
--- a fault behind the first read: some bytes came, and one is still wanted
+-- a fault after the first read: some bytes came, and one is still wanted
 cut_by_a_fault : IsCutAsking (Fingerprint 1 3) (look (ReadAt 1 2) 0 4 ∷ [])
 cut_by_a_fault = (lit< tt, (refl, lit≤ tt, lit< tt))
 
@@ -82,7 +82,7 @@ all_came (some, (same, fits, (other, (next, all, left)))) = let q : 0 < 0 = left
 ended : IsCutAsking (Fingerprint 1 3) (look (ReadAt 1 0) 1 0 ∷ []) → ⊥
 ended (some, (same, never)) = never
 
--- no asking ends before all came, or goes on behind the end
+-- no asking ends before all came, or goes on after the end
 cut_off : IsAsking (Fingerprint 1 3) (look (ReadAt 1 2) 0 4 ∷ []) → ⊥
 cut_off (some, (same, fits, left)) =
     let q : 1 ≡ 0 = left in

@@ -33,7 +33,7 @@ module _ (any : InputRule) where
   gives : GivesKey rule key (codes "/a") file whole
   gives = record { asking = (lit< tt, (refl, lit≤ tt, refl)); gave = refl }
 
-  -- ---- a fault cut two askings, one before its first read and one behind it; the third one gave the key
+  -- ---- a fault cut two askings, one before its first read and one after it; the third one gave the key
 
   abbrev cut : List Look
   cut = look (ReadAt 0 1) 0 4 ∷ []

@@ -20,7 +20,7 @@ IsReadAt (ReadAt place count) = Unit {0}
 abbrev pub OnlyRead : List Look → Type 0
 OnlyRead looks = AllByRecursion (λ look. IsReadAt look.question) looks
 
--- the reads stand before the looks of the cut
+-- the reads are before the looks of the cut
 abbrev pub cut_behind : List Look → Cut → Cut
 cut_behind reads cut = record { looks = reads ++ cut.looks; later = cut.later }
 

@@ -45,7 +45,7 @@ segments_on place looks more = cut_on place None false place looks more
 
 -- ---- the steps of more looks
 
--- whether a read directly behind these looks counts
+-- whether a read directly after these looks counts
 abbrev reached : Bool → ℕ → List Look → Bool
 reached behind place [] = behind
 reached behind place (look ∷ looks) = reached (reaches place look.question look.sight) (place + read_by (step_at behind place look)) looks

@@ -1,4 +1,4 @@
--- Where truncations are seen, a segment read the bytes of one life from its place on.
+-- If truncations are seen, a segment read the bytes of one life from its place on.
 use Rattle.std.specs.Prelude.{option_to_list}
 use Rattle.std.proofs.Common.{◌≡◌, inl, inr, ℕ, zero, suc, ◌+◌, ◌-◌, ◌<◌, ◌≤◌, Bool, true, false, List, [], ◌∷◌, ◌++◌, length, take, drop, refl, sym, ap, subst, ◌∙◌, drop-drop, arith}
 use Rattle.std.specs.List.{AllByRecursion, flat_map}
@@ -57,7 +57,7 @@ passes file place life step steps none empty later =
       same = λ some. last ∙ now.same some;
     }
 
--- a read behind what was read
+-- a read after what was read
 reads : (file : File) (place life at more : ℕ) (sight : Sight) (steps : List Step) → IsOfFile file sight →
     (0 < suc more → at + suc more ≤ sight.length) → at ≡ place → IsSeen life place sight →
     ReadsOne file (place + suc more) sight.life steps →

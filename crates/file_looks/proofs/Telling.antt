@@ -1,4 +1,4 @@
--- A tail tells such looks, whichever call comes next.
+-- A tail reports such looks, whichever call comes next.
 use Rattle.std.proofs.Common.{◌≡◌, ℕ, List, [], ◌∷◌, ◌++◌, Option, Some, Ok, IfSome, sym, subst}
 use Rattle.outside.specs.declared.history.Look.{Look}
 use Rattle.outside.specs.declared.history.Question.{Question}
@@ -12,7 +12,7 @@ pub looks-push : (file : File) (before : Sight) (looks : List Look) (look : Look
 looks-push file before [] look are is = (is, tt)
 looks-push file before (first ∷ looks) look are is = (are.0, looks-push file first.sight looks look are.1 is)
 
--- the looks behind the first ones, and the first ones
+-- the looks after the first ones, and the first ones
 pub looks_behind : (file : File) (before : Sight) (looks more : List Look) → AreLooks file before (looks ++ more) →
     AreLooks file (latest before looks) more
 looks_behind file before [] more are = are

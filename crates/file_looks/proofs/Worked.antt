@@ -79,7 +79,7 @@ end_look_at_two = record {
   stands_there = refl;
 }
 
--- ---- reads that only ask which file this is count for nothing: before the first look at the length, and directly behind
+-- ---- reads that only ask which file this is count for nothing: before the first look at the length, and directly after
 -- the look that begins a segment
 
 asked_at_opening : bytes_read truncated (segment 0 (look (ReadAt 0 2) 0 4 ∷ look (ReadAt 2 2) 0 4 ∷ look Length 0 4 ∷ look (ReadAt 0 1) 0 4 ∷ [])) ≡ codes "a"
@@ -92,11 +92,11 @@ asked_behind_a_fall = refl
 nothing_read_behind_a_fall : read_to (record { place = 0; fall = Some (look Length 1 1); looks = look (ReadAt 0 1) 1 1 ∷ look Length 1 2 ∷ [] }) ≡ 0
 nothing_read_behind_a_fall = refl
 
--- a read behind another read does not count
+-- a read after another read does not count
 second_of_two_reads : read_to (segment 0 (look Length 0 4 ∷ look (ReadAt 0 1) 0 4 ∷ look (ReadAt 1 1) 0 4 ∷ [])) ≡ 1
 second_of_two_reads = refl
 
--- such reads before all looks stand before those of the first segment, and change nothing else
+-- such reads before all looks are before those of the first segment, and change nothing else
 abbrev asked : List Look
 asked = look (ReadAt 0 2) 0 4 ∷ look (ReadAt 2 1) 0 4 ∷ []
 
@@ -134,7 +134,7 @@ unseen_by_an_asking (inr (inr none), rest) = let q : 2 ≡ 0 = none in cc
 asking_changes_no_life : last_life 0 (steps_in (segment 2 (look (ReadAt 0 1) 1 1 ∷ []))) ≡ 0
 asking_changes_no_life = refl
 
--- ---- no end look: where the length was below, another look stands between, or the read gave something
+-- ---- no end look: if the length was below, another look is between, or the read gave something
 
 no_looks : (place : ℕ) → HasEndLook (segment 0 []) place → ⊥
 no_looks place end = none_so end.front end.asked (end.read ∷ end.behind) end.looks_are

@@ -1,4 +1,4 @@
--- The front of a key: where the parts of one are taken off, what is left is what stands behind them.
+-- The front of a key: if the parts of one are taken off, what is left is what follows them.
 use Rattle.std.proofs.Common.{◌≡◌, ℕ, List, ◌++◌, codes, sym, ap, ◌∙◌}
 use Rattle.std.proofs.lemmas.List.{append_cancel_left}
 use Rattle.kept_rows.specs.Followed.{IsKeyOf}
@@ -9,7 +9,7 @@ key_of_input id key behind rest after first second third = record {
   spelled = first ∙ ap (λ (l : List ℕ). codes "filestream::" ++ l) (second ∙ ap (λ (l : List ℕ). id ++ l) third);
 }
 
--- what stands behind the first word
+-- what follows the first word
 behind_word : (id key behind : List ℕ) → key ≡ codes "filestream::" ++ behind → (of : IsKeyOf id key) → behind ≡ id ++ (codes "::" ++ of.rest)
 behind_word id key behind first of = append_cancel_left (codes "filestream::") behind (id ++ (codes "::" ++ of.rest)) (sym first ∙ of.spelled)
 

@@ -12,7 +12,7 @@ abbrev pub size_left : Option (List ℕ) → ℕ
 size_left None = 0
 size_left (Some text) = length text + 1
 
--- a `**` that stands for at most so many parts
+-- a `**` that stands for at most this many parts
 abbrev pub DeepWithin : ℕ → List Part → List (List ℕ) → Type 0
 DeepWithin most parts names =
     (count : ℕ) × (count ≤ most) × (count ≤ length names) × AllByRecursion (λ name. name ≢ []) (take count names) × PartsCover parts (drop count names)

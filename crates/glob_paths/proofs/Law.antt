@@ -1,4 +1,4 @@
--- Each path that a glob covers is its root's, with at most its depth of parts behind, and begins with its root.
+-- Each path that a glob covers is its root's, with at most its depth of further parts, and begins with its root.
 use Rattle.std.proofs.Common.{◌≡◌, ◌≢◌, ℕ, ◌+◌, ◌<◌, ◌≤◌, Bool, true, false, cond, not, ◌&&◌, Some, None, List, [], ◌∷◌, ◌++◌, length, length-drop, drop, take, map, slice_get, All, refl, sym, ap, ◌∙◌, subst, eqb, arith}
 use Rattle.std.proofs.lemmas.Bool.{false≢true}
 use Rattle.std.proofs.lemmas.Bool.Decides.{Decides-eqb, nat_tests}
@@ -187,7 +187,7 @@ covered_below text path within names other =
     more [] spelled = absurd (other (spelled ∙ append-nil (folder_parts (root_of text))))
     more (part ∷ behind) spelled = omega arith
 
--- ---- a glob covers only what its root stands in front of
+-- ---- a glob covers only what begins with its root
 
 front_of : (root path : List ℕ) (behind : List (List ℕ)) → parts_of path ≡ parts_of root ++ behind → (rest : List ℕ) × (path ≡ root ++ rest)
 front_of [] path behind same = (path, refl)

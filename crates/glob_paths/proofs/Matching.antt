@@ -1,4 +1,4 @@
--- How matching goes on behind a token, and behind a run.
+-- How matching goes on after a token, and after a run.
 use Rattle.std.proofs.Common.{◌≡◌, ℕ, zero, suc, ◌≤◌, Bool, true, false, cond, ◌&&◌, ◌↔◌, List, [], ◌∷◌, length, drop, eqb, refl, sym, ap, ◌∙◌, subst, arith}
 use Rattle.std.proofs.lemmas.Bool.Decides.{nat_tests}
 use Rattle.std.proofs.lemmas.Bool.{false≢true}
@@ -58,7 +58,7 @@ tail_of any_one tokens code codes single m = m.1
 tail_of (exactly wanted) tokens code codes single m = m.1
 tail_of (class negated items) tokens code codes single m = m.1
 
--- where a token matches at some place, what stands behind it matches from a later place on
+-- if a token matches at some place, what follows it matches from a later place on
 behind_one : (token : Token) (tokens : List Token) (place : ℕ) (codes : List ℕ) → is_run token ≡ false → Matches (token ∷ tokens) (drop place codes) → (j : ℕ) × (suc j ≤ length codes) × Matches tokens (drop (suc j) codes)
 behind_one token tokens zero [] single m = absurd (no_code token tokens single m)
 behind_one token tokens zero (code ∷ codes) single m = (0, omega arith, tail_of token tokens code codes single m)
@@ -86,7 +86,7 @@ run_twice tokens [] (suc n) le m = m
 run_twice tokens (code ∷ codes) (suc n) le m =
     let found = run_twice tokens codes n (omega arith) m in (suc found.0, omega (arith, found.1), found.2)
 
--- where the tokens do not match at the front, the run takes the first character
+-- if the tokens do not match at the front, the run takes the first character
 pub run_past : (tokens : List Token) (code : ℕ) (codes : List ℕ) → ¬ (Matches tokens (code ∷ codes)) → Matches (any_run ∷ tokens) (code ∷ codes) ↔ Matches (any_run ∷ tokens) codes
 run_past tokens code codes wrong = (λ m. shorter m.0 m.1 m.2, λ m. (suc m.0, omega (arith, m.1), m.2))
   where
@@ -153,7 +153,7 @@ pub front_long : (first : List Token) (codes pattern name left : List ℕ) (code
 front_long first codes pattern name left code comes ends some = λ m.
     let known = left_are first codes pattern name _ _ comes (tokens_none pattern ends) some in known.same.0 m
 
--- a run and then the tokens, where the first character is passed
+-- a run and then the tokens, if the first character is passed
 pub star_past : (first : List Token) (codes : List ℕ) (second : List Token) (name left : List ℕ) (code : ℕ) → Matches (any_run ∷ first) codes ↔ Matches (any_run ∷ second) (chars name) → ¬ (Matches second (chars name)) → chars name ≡ code ∷ chars left → Matches (any_run ∷ first) codes ↔ Matches (any_run ∷ second) (chars left)
 star_past first codes second name left code same wrong some =
     let P : List ℕ → Type 0 = λ rest. Matches (any_run ∷ first) codes ↔ Matches (any_run ∷ second) rest in

@@ -15,7 +15,7 @@ use Rattle.glob_paths.specs.Root.{is_plain, is_plain_byte}
 use Rattle.glob_paths.proofs.Signs.{plain_first}
 use Rattle.glob_paths.proofs.Slashes.{NoSlash, NoSlash-by_index, some_part}
 
--- a text in front of the first part
+-- a text before the first part
 abbrev put_front : List ℕ → List (List ℕ) → List (List ℕ)
 put_front text [] = text ∷ []
 put_front text (part ∷ parts) = (text ++ part) ∷ parts

@@ -26,7 +26,7 @@ use Rattle.harvester.specs.Turned.{HasOneEvent}
 use Rattle.harvester.specs.TurnLooks.{AddsSome, AreOfLook, AreOfReading, AreOfTurn, AskForKey, HasGivenKey, HasReached, HasRead, IsRefused, LooksOn, TellsOrFails}
 use Rattle.harvester.specs.Turns.{answer_of}
 
--- ---- looks one behind the other
+-- ---- looks one after another
 
 latest-append : (sight : Sight) (looks more : List Look) → latest sight (looks ++ more) ≡ latest (latest sight looks) more
 latest-append sight [] more = refl
@@ -232,7 +232,7 @@ module _ (held : Held) (numbers : Option (ℕ × ℕ)) (before after : Option Ta
 
 -- ---- a whole turn
 
--- behind a length that is below the place
+-- after a length that is below the place
 module _ (held asking : Held) (begin : asking.begin ≡ held.begin) (input : asking.input ≡ held.input) (identity : asking.identity ≡ held.identity) where
   asked_of : (file : File) (answer : Turn) (looks : List Look) → AskForKey asking answer file looks → AskForKey held answer file looks
   asked_of file answer looks asked =
@@ -289,7 +289,7 @@ fails_of (Err error.ReadFault) err = tt
 fails_of (Err error.NoMemory) err = tt
 
 module _ (held : Held) (at : ℕ) (place : at ≡ held.position) where
-  -- by a look that read, after which the tail was kept, whatever was told then
+  -- by a look that read, after which the tail was kept, whatever was reported then
   pub looks_of_read : (answer : Turn) (numbers : Option (ℕ × ℕ)) (found : Found) → (found ≡ More) ⊎ (found ≡ End) → (before mid after : Option TailHistory) →
       LooksOn (AreOfLook (Ok found) at) numbers before mid → after ≡ mid → LooksOn (AreOfReading held answer) numbers before after
   looks_of_read answer numbers found which before mid after looks kept =
@@ -322,7 +322,7 @@ module _ (held : Held) (at : ℕ) (place : at ≡ held.position) where
           subst (λ (l : List Look). AreOfReading held (answer_of result) file l) (sym is.are)
           (is.asks, inr (omega (arith, is.reached, place), refused result err))
 
--- by where the file stood
+-- by the state of the file
 pub looks_at_stage : (stage other : ReaderStage) → stage ≡ other → (held : Held) (answer : Turn) (numbers : Option (ℕ × ℕ)) (before after : Option TailHistory) →
     LooksOn (AreOfTurn other held answer) numbers before after → LooksOn (AreOfTurn stage held answer) numbers before after
 looks_at_stage stage other is held answer numbers before after looks =

@@ -68,7 +68,7 @@ part_reads (Fingerprint offset count) looks is = parts_read looks offset count i
 part_reads Native looks is = none_read looks is
 part_reads Path looks is = none_read looks is
 
--- ---- what then stands
+-- ---- what is then
 
 module _ {T : Type 0} (numbers : T → Option (ℕ × ℕ)) (told : T → Option TailHistory) (h : History) (old : Harvester T)
     (has : HasTold numbers told h old) (asking : old.reader.stage ≡ Asking) where
@@ -124,7 +124,7 @@ module _ {T : Type 0} (numbers : T → Option (ℕ × ℕ)) (told : T → Option
           other = differs;
         }
 
-  -- by what the tail told
+  -- by what the tail reported
   looked_then : (g : History) (result : Result Bool TurnError) → ((before : TailHistory) → IsLookedAt (numbers old.tail) h before → (looks : List Look) →
       IsGivenKey old.reader (with_numbers (numbers old.tail) before.file) looks result → IsLookedAt (numbers old.tail) g (with_looks before looks)) →
       (before after : Option TailHistory) → AreLookedAt (numbers old.tail) h before →

@@ -46,7 +46,7 @@ waits_since rule (first ∷ others) at gathered is =
     since None = at
     since (Some one) = one.read_at
 
--- where a moment stands among others
+-- where a moment is among others
 record Stands (xs : List ℕ) (x : ℕ) : Type 0 where
   before : List ℕ
   behind : List ℕ
@@ -269,7 +269,7 @@ module _ (h : History) (held : Held) (a : AllGathered h held) where
 
 module _ (h : History) (later : (rule : LineRule) (start : ℕ) (bytes : List ℕ) (given : List Line) (line : Line) (more : List Line) →
     complete_lines rule start bytes ≡ given ++ line ∷ more → complete_lines rule line.span.end (drop (line.span.end - start) bytes) ≡ more) where
-  -- behind the lines of the events that were told
+  -- after the lines of the events that were reported
   pub left_behind : (held : Held) (of : Gathered) → Holds h held of → (rest : List Line) → complete_in h ≡ of.told ++ rest → left_to_tell h ≡ rest
   left_behind held of t rest are =
       let place : row_end h.present.start of.told ≡ told_to h.present = t.has.told_to ∙ t.told_place in

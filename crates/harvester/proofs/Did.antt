@@ -17,7 +17,7 @@ module _ (now : ℕ) (h : History) (stage : Stage) where
       did_both licences []
       ∙ ap (λ (t : List ToldEvent). with_stage stage (with_present (record (with_licences licences h.present) { told = t }) h)) (append-nil h.present.told)
 
-  -- it only stands elsewhere
+  -- it is only elsewhere
   pub did_stage : did_with now [] (record { bytes = []; licences = []; stage = stage }) h ≡ with_stage stage h
   did_stage =
       did_licences [] ∙ ap (λ (l : List ℕ). with_stage stage (with_present (record h.present { licences = l }) h)) (append-nil h.present.licences)
@@ -32,7 +32,7 @@ module _ (now : ℕ) (h : History) (stage : Stage) where
     pub did_nothing : did_with now [] (record { bytes = []; licences = []; stage = stage }) h ≡ h
     did_nothing = did_events [] ∙ ap (λ (t : List ToldEvent). with_present (record h.present { told = t }) h) (append-nil h.present.told)
 
--- with some bytes more, and nothing told
+-- with some bytes more, and nothing reported
 pub did_bytes : (now : ℕ) (h : History) (stage : Stage) (bytes : List ℕ) → did_with now [] (record { bytes = bytes; licences = []; stage = stage }) h
     ≡ with_stage stage (with_read now bytes h)
 did_bytes now h stage bytes =

@@ -22,7 +22,7 @@ pub on_ok : (r : Result (Unit {0}) NoMemory) (P Q : Type 0) → (P → Q) → On
 on_ok (Ok done) P Q so here = so here
 on_ok (Err error) P Q so here = tt
 
--- what is none where the other is none
+-- what is none if the other is none
 pub none_too : (one : Option Group) (other : Option GatheredLines) → (IsSome one ↔ IsSome other) → one ≡ None → other ≡ None
 none_too one None both none = refl
 none_too one (Some gathered) both none =

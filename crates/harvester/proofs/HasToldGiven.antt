@@ -1,4 +1,4 @@
--- What a harvester has told as it is opened, with another path, and as its end may be found.
+-- What a harvester has reported as it is opened, with another path, and as its end may be found.
 use Rattle.std.proofs.Common.{◌≡◌, inl, ℕ, Bool, true, List, [], Option, Some, None, refl, sym, append-nil, add-zero}
 use Rattle.event_tree.specs.declared.input_rule.InputRule.{InputRule}
 use Rattle.event_tree.specs.declared.processor_rule.ProcessorRule.{ProcessorRule}

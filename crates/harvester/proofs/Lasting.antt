@@ -79,7 +79,7 @@ same_read now h =
     ap (λ (n : ℕ). record h { present = with_bytes [] h.present; last_line = n }) (no_line_read now [] h [] none refl)
     ∙ ap (λ (l : List ℕ). record h { present = record h.present { bytes = l } }) (append-nil h.present.bytes)
 
--- where all are gathered, the last one is that of the history
+-- if all are gathered, the last one is that of the history
 pub last_where_all : (h : History) (held : Held) (of : Gathered) → AreAll h of → HasLastLine h held of → held.events.last_line.0 ≡ h.last_line
 last_where_all h held of all (inl last) = last.1
 last_where_all h held of all (inr fewer) =
@@ -173,7 +173,7 @@ module _ (h : History) (held : Held) (t : StandsFor h held) where
           none_closed = subst (λ (o : Option Group). AreClosed (rules_in h) h.present.licences found.moved.after.closed found.moved.after.waiting o) closed found.moved.is.closed;
         }
 
-  -- ---- where the file stands, and with a small buffer
+  -- ---- where the file is, and with a small buffer
 
   pub stages : (stage : ReaderStage) → IsGatheredAt (stage_of stage) h t.of → StandsFor (with_stage (stage_of stage) h) (record held { stage = stage })
   stages stage at = record {
@@ -267,9 +267,9 @@ module _ (h : History) (held : Held) (a : AllGathered h held) (reading : held.st
         at_stage = at_reading h.stage (reads_where_reading h held a.stands reading) (with_read now.0 (take count buffer) h) a.stands.of;
       }
 
--- ---- steps one behind the other
+-- ---- steps one after another
 
--- where no event is found, all complete lines are gathered
+-- if no event is found, all complete lines are gathered
 pub all_where_found : (held old : Held) → held ≡ old → ((rule : LineRule) (start : ℕ) (bytes more : List ℕ) →
     (later : List Line) × (complete_lines rule start (bytes ++ more) ≡ complete_lines rule start bytes ++ later)) → (events : Events) (r : Result Bool NoMemory) →
     ((rules : Rules) (start : ℕ) (fed licences : List ℕ) (of : Gathered) → IsGathered rules start fed licences of held.events →
@@ -288,7 +288,7 @@ pub all_through : (r : Result Bool NoMemory) (old mid new : Held) → ((h : Hist
 all_through (Ok b) old mid new stands all = λ no h t. all no h (stands h t)
 all_through (Err error) old mid new stands all = tt
 
--- the closed event was told, and it ends at this place
+-- the closed event was reported, and it ends at this place
 module _ (h : History) (held : Held) (group : Group) (closed : held.events.closed ≡ Some group)
     (stay : (rule : LineRule) (start : ℕ) (bytes more : List ℕ) →
     (later : List Line) × (complete_lines rule start (bytes ++ more) ≡ complete_lines rule start bytes ++ later))

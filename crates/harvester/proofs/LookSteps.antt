@@ -1,4 +1,4 @@
--- What a look at the length of a harvester's tail, and the read behind it, add to its history.
+-- What a look at the length of a harvester's tail, and the read after it, add to its history.
 use Rattle.std.proofs.Common.{◌≡◌, ℕ, ◌+◌, ◌<◌, ◌≤◌, List, [], ◌∷◌, length, take, drop, Option, Some, None, IfSome, Ok, Err, refl, sym, ap, subst, ◌∙◌, append_assoc, append-nil, arith}
 use Rattle.std.proofs.lemmas.List.{length-take-le}
 use Rattle.file_identity.specs.Answers.{with_numbers}
@@ -57,7 +57,7 @@ module _ (numbers : Option (ℕ × ℕ)) (h : History) (reads : h.stage ≡ Read
       subst (λ (o : Option TailHistory). AreLookedAt numbers (with_present (with_bytes [] h.present) h) o) (sym tells.kept)
       (more_looks numbers h told looked reads (tells.look ∷ []) [] more)
 
-  -- the read behind it
+  -- the read after it
   module _ (told : TailHistory) (looked : IsLookedAt numbers h told) (answer : ℕ) (mid : Option TailHistory) (asked : LooksAtLength told answer mid)
       (reached : read_to h.present ≤ answer) (into : List ℕ) (count : ℕ) (within : count ≤ length into) (after : Option TailHistory)
       (read : LooksAtBytes (with_looks told (asked.look ∷ [])) (read_to h.present) into count after) where
@@ -135,7 +135,7 @@ module _ (numbers : Option (ℕ × ℕ)) (h : History) (reads : h.stage ≡ Read
   tells_bytes told at (byte ∷ bytes) count after some tells = tells
 
   module _ (answer : ℕ) (reached : read_to h.present ≤ answer) (into : List ℕ) (some : 0 < length into) where
-    -- what the length and the read told, one behind the other
+    -- what the length and the read reported, one after another
     both_told : (told : TailHistory) (mid after : Option TailHistory) (count : ℕ) → TellsLength (Some told) (Ok answer) mid →
         TellsRead mid (read_to h.present) into (Ok count) after → (asked : LooksAtLength told answer mid) ×
         LooksAtBytes (with_looks told (asked.look ∷ [])) (read_to h.present) into count after

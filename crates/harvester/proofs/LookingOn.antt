@@ -167,7 +167,7 @@ module _ (numbers : Option (ℕ × ℕ)) (h : History) (told : TailHistory) (l :
           end_look = λ ended. absurd (let no : Asks ≡ Ended = ended in cc);
         }
 
-  -- ---- what is told, and where an event may be flushed
+  -- ---- what is reported, and where an event may be flushed
 
   same_behind : (new : History) (present : Telling) → (new ≡ with_present present h) → history.read_to present ≡ history.read_to h.present →
       StandBehind h (with_numbers numbers told.file) h.stage l.beyond → StandBehind (with_present present h) (with_numbers numbers told.file) h.stage l.beyond
@@ -249,7 +249,7 @@ module _ (numbers : Option (ℕ × ℕ)) (h : History) (told : TailHistory) (l :
     unfolding was
     was_cut = (unanswered_in h.stage asks l.stand_behind).cut
 
-    -- by these looks the key was not told
+    -- by these looks the key was not reported
     pub was_unknown : IsFingerprint h.rule.file_identity → ¬ (SomeAskingGives h.rule h.begin.key h.begin.path (with_numbers numbers told.file) was.later)
     unfolding was
     was_unknown = (unanswered_in h.stage asks l.stand_behind).unknown
@@ -269,7 +269,7 @@ module _ (numbers : Option (ℕ × ℕ)) (h : History) (told : TailHistory) (l :
         ap (λ (b : List Look). b ++ more) l.looks_are ∙ append_assoc h.before (l.since ++ l.beyond) more
         ∙ ap (λ (b : List Look). h.before ++ b) (append_assoc l.since l.beyond more)
 
-    -- the asking met a fault
+    -- the asking hit a fault
     pub asks_on : AreCutAskings h.rule.file_identity (was.later ++ more) →
         (IsFingerprint h.rule.file_identity → ¬ (SomeAskingGives h.rule h.begin.key h.begin.path (with_numbers numbers told.file) (was.later ++ more))) →
         IsLookedAt numbers h (with_looks told more)

@@ -19,7 +19,7 @@ use Rattle.told_events.proofs.Going.{all_behind, all_others}
 abbrev begun : ℕ → Option Look → Cut → List Segment
 begun place fall cut = record { place = place; fall = fall; looks = cut.looks } ∷ cut.later
 
--- whether a read directly behind these looks counts
+-- whether a read directly after these looks counts
 abbrev pub reached : Bool → ℕ → List Look → Bool
 reached behind place [] = behind
 reached behind place (look ∷ looks) = reached (reaches place look.question look.sight) (place + read_by (step_at behind place look)) looks
@@ -30,7 +30,7 @@ in_front_of looks cut = record { looks = looks ++ cut.looks; later = cut.later }
 abbrev NoneFallsIn : List Step → Type 0
 NoneFallsIn steps = AllByRecursion (λ step. falls_below step.place step.look.question step.look.sight ≡ false) steps
 
--- looks of which none falls go on with what is behind them
+-- looks of which none falls go on with what follows them
 cut_behind : (behind : Bool) (place : ℕ) (looks more : List Look) → NoneFallsIn (steps_from behind place looks) →
     cut_from behind place (looks ++ more)
     ≡ in_front_of looks (cut_from (reached behind place looks) (place_behind place (steps_from behind place looks)) more)
@@ -97,7 +97,7 @@ module _ (place : ℕ) (looks more : List Look) (front : List Segment) (last : S
       segments_more place looks more ∙ ap (λ (l : List Segment). recut l more) are ∙ recut_last front last more
       ∙ ap (λ (c : Cut). front ++ begun last.place last.fall c) (cut_behind false last.place last.looks more last_holds)
 
-  -- where none of them falls, the last segment goes on
+  -- if none of them falls, the last segment goes on
   pub last_goes_on : NoneFallsIn (steps_from (reached false last.place last.looks) (read_to last) more) →
       segments_of place (looks ++ more) ≡ front ++ record last { looks = last.looks ++ more } ∷ []
   last_goes_on none =
@@ -162,7 +162,7 @@ asks_length file last sight reaches_it =
     let all = reads_more file last (record { question = Length; sight = sight } ∷ []) steps refl (not_below p sight.length reaches_it, tt) ((λ counts. absurd cc), tt) in
     record { none_falls = all.none_falls; to = all.to ∙ omega arith; gives = all.gives; on = all.on }
 
--- a length that is not below, and a read behind it
+-- a length that is not below, and a read after it
 pub asks_and_reads : (file : File) (last : Segment) (asked sight : Sight) (count : ℕ) → read_to last ≤ asked.length →
     ReadsMore file last (record { question = Length; sight = asked } ∷ record { question = ReadAt (read_to last) count; sight = sight } ∷ [])
     (read_to last + count) (take count (drop (read_to last) (life_of file sight.life)))

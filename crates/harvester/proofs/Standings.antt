@@ -59,7 +59,7 @@ module _ (h : History) (held : Held) (of : Gathered) (t : Holds h held of) (grou
         omega (arith, end_is, within.ends, long, t.position.position, t.position.in_range),
       )
 
-  -- and it is told
+  -- and it is reported
   module _ (stay : (rule : LineRule) (start : ℕ) (bytes more : List ℕ) →
       (later : List Line) × (complete_lines rule start (bytes ++ more) ≡ complete_lines rule start bytes ++ later))
       (later : (rule : LineRule) (start : ℕ) (bytes : List ℕ) (given : List Line) (line : Line) (more : List Line) →
@@ -228,7 +228,7 @@ read_on h held of t buffer count now none room within in_range given moment =
     read_stands h held of t buffer count now none (omega (arith, room, t.position.some_room)) within
     (place_on held.position count t.position.in_range in_range) given moment
 
--- ---- where the file stands, and with a small buffer
+-- ---- where the file is, and with a small buffer
 
 module _ (h : History) (held : Held) (of : Gathered) (t : Holds h held of) where
   pub staged : (stage : ReaderStage) → Holds (with_stage (stage_of stage) h) (record held { stage = stage }) of
@@ -424,7 +424,7 @@ opened_stands rule processors begin before now held readable base moment is_begi
       present = λ life has. record { partition = tt; fates = tt };
     }
 
--- ---- steps one behind the other
+-- ---- steps one after another
 
 pub on_err : {A E : Type 0} (r : Result A E) (P : Type 0) → P → OnErr r P
 on_err (Ok value) P is = tt

@@ -1,4 +1,4 @@
--- The closed event is told of each life that has what was read.
+-- The closed event is reported of each life that has what was read.
 use Rattle.std.proofs.Common.{◌≡◌, ◌≢◌, ◌⊎◌, inl, inr, ℕ, ◌+◌, ◌-◌, ◌<◌, ◌≤◌, List, [], ◌∷◌, ◌++◌, length, drop, Contains, refl, sym, ap, subst, ◌∙◌, append_assoc, drop-drop, length-append, le_refl, arith}
 use Rattle.event_tree.specs.declared.group_rule.GroupRule.{GroupRule}
 use Rattle.event_tree.specs.declared.line_rule.LineRule.{LineRule}
@@ -39,7 +39,7 @@ pub adjoining_behind : (start : ℕ) (xs ys : List Line) → AreAdjoining start 
 adjoining_behind start [] ys are = are
 adjoining_behind start (x ∷ xs) ys are = adjoining_behind x.span.end xs ys are.2
 
--- lines behind the first ones are those of the bytes behind these
+-- lines after the first ones are those of the bytes after these
 module _ (later : (rule : LineRule) (start : ℕ) (bytes : List ℕ) (given : List Line) (line : Line) (more : List Line) →
     complete_lines rule start bytes ≡ given ++ line ∷ more → complete_lines rule line.span.end (drop (line.span.end - start) bytes) ≡ more)
     (rule : LineRule) (start : ℕ) (bytes : List ℕ) (rest : List Line) where
@@ -149,7 +149,7 @@ module _ (stay : (rule : LineRule) (start : ℕ) (bytes more : List ℕ) →
   any_place [] none place other = absurd (none refl)
   any_place (first ∷ others) none place other = refl
 
-  -- alone, from where the told ones end
+  -- alone, from where the reported ones end
   pub one_told : (start : ℕ) (fed bytes life unfed : List ℕ) (told closed waiting rest : List Line) (cutter : Cutting) → bytes ≡ fed ++ unfed →
       HasBytes start bytes life → AreCut rules.lines start fed ((told ++ (closed ++ waiting)) ++ rest) cutter →
       IsClosedEvent rules licences closed waiting group → AreTold rules licences life (row_end start told) (event ∷ [])

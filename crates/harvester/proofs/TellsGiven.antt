@@ -86,7 +86,7 @@ module _ {T : Type 0} (numbers : T → Option (ℕ × ℕ)) (told : T → Option
         go None looked = tt
         go (Some earlier) looked = tells_more (numbers old.tail) h earlier looked (event ∷ [])
 
-    -- the closed event was told with this fate
+    -- the closed event was reported with this fate
     pub told_one : (now : ℕ) (fate : EventFate) (span : Extent) → IsSome old.reader.events.closed →
         IfSome old.reader.events.closed (λ group. (r : Rules) → Decides r old.rules →
         IsFateBy r (given_path old.reader.begin.path old.reader.renamed) now (fate, span) group) →

@@ -37,7 +37,7 @@ use Rattle.harvester.proofs.Lasting.{same_read, turns_on}
 use Rattle.harvester.proofs.Looking.{apart_stays}
 use Rattle.harvester.proofs.LookingOn.{flushes, flushes_at_end, other_turn}
 
--- where the file stands behind an end that may be found
+-- where the file is after an end that may be found
 abbrev pub behind_end : Bool → Stage
 behind_end ended = stage_of (stage_behind_end ended)
 
@@ -63,7 +63,7 @@ may_turn_then Over nothing = absurd nothing
 pub reads_of : (h : History) (held : Held) → StandsFor h held → held.stage ≡ Reading → h.stage ≡ Reads
 reads_of h held t reading = sym t.holds.follows.stage ∙ ap stage_of reading
 
--- the same, where what is held changed
+-- the same, if what is held changed
 pub with_reader : {T : Type 0} (numbers : T → Option (ℕ × ℕ)) (told : T → Option TailHistory) (h : History) (old : Harvester T) → HasTold numbers told h old →
     (reader : Held) → StandsFor h reader → HasTold numbers told h (record old { reader = reader })
 with_reader numbers told h old has reader stands = record { held = stands; decides = has.decides; looked = has.looked }
@@ -206,7 +206,7 @@ module _ {T : Type 0} (numbers : T → Option (ℕ × ℕ)) (told : T → Option
     goes_refused has (Err error.ReadFault) err = record { did = did; has_told = has; few = few; reads_where_none_closes = none; no_event_left = λ reads quiet. absurd quiet; ends_where_found = ends; stays_ended = still; asks_where_none_closes = asks; flushed = due; caused = may }
     goes_refused has (Err error.NoMemory) err = record { did = did; has_told = has; few = few; reads_where_none_closes = none; no_event_left = λ reads quiet. absurd quiet; ends_where_found = ends; stays_ended = still; asks_where_none_closes = asks; flushed = due; caused = may }
 
-    -- an event was told
+    -- an event was reported
     pub goes_told : (answer : Turn) → HasOneEvent answer → HasTold numbers told (did_with now (events_told h.path now answer) did h) new →
         Goes numbers told most now may_end h old answer new
     goes_told (turn.Issued parcel) one has = record { did = did; has_told = has; few = few; reads_where_none_closes = none; no_event_left = λ reads quiet. absurd quiet; ends_where_found = ends; stays_ended = still; asks_where_none_closes = asks; flushed = due; caused = may }
@@ -264,7 +264,7 @@ module _ {T : Type 0} (numbers : T → Option (ℕ × ℕ)) (told : T → Option
         };
       }
 
-  -- the key was asked, where the history is this one but for the stage
+  -- the key was asked, if the history is this one but for the stage
   module _ (was : History) (is : with_stage Asks was ≡ with_stage Asks h) (left : h.stage ≡ Reads → NoneCloses h) (goes_on : ¬ (h.stage ≡ Ended)) where
     at_stage : (stage : Stage) → with_stage stage was ≡ with_stage stage h
     at_stage stage = ap (λ (g : History). with_stage stage g) is
@@ -352,7 +352,7 @@ module _ {T : Type 0} (numbers : T → Option (ℕ × ℕ)) (told : T → Option
         goes_refused (record { bytes = bytes; licences = s.licences; stage = s.stage }) s.goes_on few (λ some. none) (λ is. found (s.ends is)) (flushed_then s.licences s.stage s.flushed) no_end (λ is asks. none)
         (nothing_told (Err error) s refl)
 
-    -- what was left is left where nothing was told
+    -- what was left is left where nothing was reported
     left_then : (licences : List ℕ) (stage : Stage) →
         left_to_tell (did_with now [] (record { bytes = bytes; licences = licences; stage = stage }) h) ≡ left_to_tell (with_stage Reads (with_read now bytes h))
     left_then licences stage =
@@ -416,7 +416,7 @@ module _ {T : Type 0} (numbers : T → Option (ℕ × ℕ)) (told : T → Option
             HasTold numbers told (did_with now [] (record { bytes = bytes; licences = settled.licences; stage = settled.stage }) h) mid
         nothing_told_mid mid settled = subst (λ (g : History). HasTold numbers told g mid) (through [] settled.licences settled.stage) settled.has_told
 
--- ---- behind a look
+-- ---- after a look
 
 pub ends_given : (moments : List ℕ) (now : ℕ) → EndsAt moments now → Contains moments now
 ends_given moments now ends = subst (λ (l : List ℕ). Contains l now) (sym ends.are) (Contains-append_right ends.earlier (now ∷ []) now (0, omega arith, refl))
@@ -457,7 +457,7 @@ module _ {T : Type 0} (numbers : T → Option (ℕ × ℕ)) (told : T → Option
       (ap (λ (l : List ℕ). with_stage Asks (with_read now l h)) looked.gave
       ∙ ap (λ (g : History). with_stage Asks g) (same_read now h)) (λ reading. none) (λ ended. let no : Reads ≡ Ended = sym reads ∙ ended in cc) result (asks _ looked.has_told)
 
-  -- where the end was found, the file may be ended
+  -- if the end was found, the file may be ended
   pub may_be_ended : (looked : HasLooked numbers told most now h gathered (Ok End) mid) → h.may_end ≡ true →
       MayBeEnded numbers told (with_stage Reads (with_read now looked.bytes h)) mid
   may_be_ended looked may = record {
@@ -478,7 +478,7 @@ module _ {T : Type 0} (numbers : T → Option (ℕ × ℕ)) (told : T → Option
       IfSome (told old) (λ earlier. LooksAtEnd place earlier (told new))
   looks_kept place old mid new same looks = subst (λ (t : T). IfSome (told old) (λ earlier. LooksAtEnd place earlier (told t))) (sym same) looks
 
-  -- the key is asked in the turn behind the look
+  -- the key is asked in the turn after the look
   pub asked_here : (most now : ℕ) (may_end : Bool) (h : History) (old new : Harvester T) (result : Result Turn TurnError) → h.stage ≡ Asks →
       HasAsked numbers told h result new → Goes numbers told most now may_end h old (answer_of result) new
   asked_here most now may_end h old new result asks asked =
@@ -551,7 +551,7 @@ not_changed stage now is may (inl changed) = subst (λ (s : Stage). MayTurn s) (
 not_changed stage now is may (inr over) = subst (λ (s : Stage). MayTurn s) (sym is ∙ ap stage_of over) may
 
 module _ {T : Type 0} (numbers : T → Option (ℕ × ℕ)) (told : T → Option TailHistory) (most now : ℕ) (may_end : Bool) (h : History) (old new : Harvester T) where
-  -- whether it rests is no part of what was told
+  -- whether it rests is no part of what was reported
   pub rested : (rests : Bool) (answer : Turn) {other : Turn} → other ≡ answer → Goes numbers told most now may_end h old other new →
       Goes numbers told most now may_end h old answer (record new { rests = rests })
   rested rests answer same goes =

@@ -28,7 +28,7 @@ pub refused_is_part : (held : Held) (file : File) (looks : List Look) (error : T
 refused_is_part held file looks ReadFault gave = cut_is_part held.identity looks gave
 refused_is_part held file looks NoMemory gave = subst (λ (l : List Look). IsPartOfAsking held.identity l) (sym gave) (nothing_is_part held.identity)
 
--- what was not told before is not told by an asking that was refused
+-- what was not reported before is not reported by an asking that was refused
 pub still_unknown : (h : History) (held : Held) → StandsFor h held → (file given : File) (before looks : List Look) (error : TurnError) → IsGivenKey held given looks (Err error) →
     (IsFingerprint h.rule.file_identity → ¬ (SomeAskingGives h.rule h.begin.key h.begin.path file before)) →
     IsFingerprint h.rule.file_identity → ¬ (SomeAskingGives h.rule h.begin.key h.begin.path file (before ++ looks))

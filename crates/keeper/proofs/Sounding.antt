@@ -38,7 +38,7 @@ some_more : (rest : List Note) (note : Note) → true ≡ are_some (rest ++ note
 some_more [] note = refl
 some_more (first ∷ rest) note = refl
 
--- where nothing is pending, all notes are committed; and else some are not
+-- if nothing is pending, all notes are committed; and else some are not
 all_are : (rest : List Note) (notes committed : List Note) → notes ≡ committed ++ rest → false ≡ are_some rest → committed ≡ notes
 all_are [] notes committed is none = sym (append-nil committed) ∙ sym is
 all_are (note ∷ rest) notes committed is none = absurd (let q : false ≡ true = none in cc)

@@ -214,7 +214,7 @@ settled_span account wires notes slot epoch span all there =
     let of = note_of slot notes told.0 told.1 in
     settles_so account wires slot epoch told.0 span of.1 told.2 (backed account wires notes told.0 all of.0)
 
--- ---- told events by their spans
+-- ---- reported events by their spans
 
 map_there : {A B : Type 0} (f : A → B) (xs : List A) (x : A) → Contains xs x → Contains (map f xs) (f x)
 map_there f [] x there = absurd (none_there x there)
@@ -223,12 +223,12 @@ map_there {A = A} f (first ∷ xs) x there = elim (there_cases first x xs there)
   | inr later ↦ later_there (f first) (f x) (map f xs) (map_there f xs x later)
 ]
 
--- told events that have the same span are the same
+-- reported events that have the same span are the same
 one_event : (start : ℕ) (told : List AccountedEvent) (a b : AccountedEvent) → Adjoin start (spans_of told) → Contains told a → Contains told b → a.event.span ≡ b.event.span → a ≡ b
 one_event start [] a b adjoin in_a in_b same = absurd (none_there a in_a)
 one_event start (first ∷ told) a b adjoin in_a in_b same = go (there_cases first a told in_a) (there_cases first b told in_b) (λ later_a later_b. one_event first.event.span.end told a b adjoin.2 later_a later_b same)
   where
-    -- what is told later begins behind the first span
+    -- what is reported later begins after the first span
     later_start : (one : AccountedEvent) → Contains told one → first.event.span.end ≤ one.event.span.start
     later_start one there = adjoining_behind first.event.span.end (spans_of told) one.event.span adjoin.2 (map_there (λ (x : AccountedEvent). x.event.span) told one there)
 
@@ -354,7 +354,7 @@ all_settled account wires notes slot epoch told_in all is adjoin (one ∷ front)
 abbrev pub ClosesBy : Type 0
 ClosesBy = (told spans : List Extent) (base : ℕ) → Adjoin base told → All (Contains told) spans → ClosesPrefix told spans base
 
--- what notes settle of the epoch was told
+-- what notes settle of the epoch was reported
 pub settled_is_told : (account : List SlotAccount) (wires : List WireTold) (notes : List Note) (slot epoch : ℕ) (told_in : EpochAccount) →
     AreBacked account wires notes → epoch_of account slot epoch ≡ Some told_in → (span : Extent) → Contains (spans_in epoch (notes_of slot notes)) span → Contains (spans_of told_in.told) span
 settled_is_told account wires notes slot epoch told_in all is span there =
@@ -416,7 +416,7 @@ standing_of account wires notes slot start rows all is =
       adjoin = adjoin_in begin.one (greatest_epoch (notes_of slot notes)) found.0 row_of_slot in_slot;
     }
 
--- the row that stands over the notes
+-- the row that is over the notes
 abbrev pub standing_told : ClosesBy → (account : List SlotAccount) (wires : List WireTold) (notes : List Note) (slot : ℕ) (start : Start) → AreBacked account wires notes →
     Standing account notes slot start → IsToldRow account wires (standing_row (notes_of slot notes) start)
 standing_told closes account wires notes slot start all stands = record {
@@ -430,7 +430,7 @@ standing_told closes account wires notes slot start all stands = record {
       stands.adjoin stands.starts;
 }
 
--- a row over the notes of a slot is that which stands over them
+-- a row over the notes of a slot is that which is over them
 pub record IsStandingRow (notes : List Note) (slot : ℕ) (row : Row) : Type 0 where
   pub start : Start
   pub begins : start_over (notes_of slot notes) ≡ Some start

@@ -1,4 +1,4 @@
--- Where nothing is forgotten, the key of a slot that was begun has a row: the one that stands over the slot's notes.
+-- If nothing is forgotten, the key of a slot that was begun has a row: the one that is over the slot's notes.
 use Rattle.std.proofs.Common.{◌≡◌, ℕ, Bool, true, false, if◌then◌else◌, List, [], ◌==◌, ◌∷◌, Option, Some, None, refl, ap, ◌∙◌}
 use Rattle.std.specs.List.{AllByRecursion, filter, list_any}
 use Rattle.std.specs.Option.{is_some, option_and_then}
@@ -37,7 +37,7 @@ all_passed p (note ∷ notes) all = by_case (p note) (all_passed p notes all.1)
     by_case true later = (all.0, later)
     by_case false later = later
 
--- the row of the slot stands
+-- the row of the slot is there
 pub slot_stands : (slot : ℕ) (notes : List Note) (start : Start) → ForgetNone notes → start_over (notes_of slot notes) ≡ Some start →
     row_over slot notes ≡ Some (standing_row (notes_of slot notes) start)
 slot_stands slot notes start none begun =

@@ -1,4 +1,4 @@
--- The looks of a tail that was closed are those of its closing, wherever in the list its opening stands and whatever stands
+-- The looks of a tail that was closed are those of its closing, wherever in the list its opening stands and whatever is
 -- before that.
 use Rattle.std.proofs.Common.{◌≡◌, ℕ, suc, ◌<◌, drop, List, [], ◌∷◌, ◌++◌, length, Option, Some, None, option_map, refl, ap, ◌∙◌}
 use Rattle.std.specs.List.{AllByRecursion}

@@ -1,4 +1,4 @@
--- A slot that was begun and has no row over backed notes was forgotten: some Forget names its last epoch and where what was told of it ends,
+-- A slot that was begun and has no row over backed notes was forgotten: some Forget names its last epoch and where what was reported of it ends,
 -- and all of that is settled.
 use Rattle.std.proofs.Common.{◌≡◌, ◌⊎◌, inl, inr, ℕ, ◌+◌, ◌<◌, ◌≤◌, Bool, true, false, cond, eqb, nat_le, nat_lt, ◌&&◌, List, [], ◌∷◌, ◌++◌, max, Option, Some, None, refl, sym, ap, subst, ◌∙◌, append-nil, arith}
 use Rattle.std.specs.List.{AllByRecursion, Contains, filter, fold}
@@ -102,7 +102,7 @@ last_is_found one earlier last numbered are = ap (epoch_at last.epoch) are ∙ b
         ap (λ (b : Bool). cond b (Some first) (epoch_at last.epoch (others ++ last ∷ []))) (ne_eqb first.epoch last.epoch (λ equal. omega (arith, equal, number, more)))
         ∙ at_last_from one.following.epoch others last from
 
--- ---- an offset that is not below the end closes all that was told
+-- ---- an offset that is not below the end closes all that was reported
 
 ends_from : (place : ℕ) (told : List AccountedEvent) → Adjoin place (spans_of told) → place ≤ last_end place (spans_of told)
 ends_from place [] adjoin = omega arith
@@ -175,7 +175,7 @@ module _ (closes : ClosesBy) (account : List SlotAccount) (wires : List WireTold
             closes_all wires backs.last (offset_over start own) (subst (λ (e : EpochAccount). Adjoin e.start (spans_of e.told)) last.1 adjoin)
             (subst (λ (e : EpochAccount). ClosesSettled wires e (offset_over start own)) last.1 closed) (omega (arith, within, end_is))
 
-  -- a note of the slot that lets a row go which stands there
+  -- a note of the slot by which a row goes that is there
   by_note : (start : Start) → start_over own ≡ Some start → (note : Note) → Contains notes note → slot_named note ≡ slot → forgets named (offset_over start own) note ≡ true → Backs account wires note →
       IsForgotten account wires notes slot
   by_note start begun (Begin s key path e base changed) there same is backs = absurd (let q : false ≡ true = is in cc)

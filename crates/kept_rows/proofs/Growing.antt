@@ -1,4 +1,4 @@
--- Kept rows stay kept, and what was told stays told, as the account tells more and talks grow.
+-- Kept rows stay kept, and what was reported stays reported, as the account reports more and talks grow.
 use Rattle.std.proofs.Common.{◌≡◌, inl, inr, ℕ, Bool, true, false, cond, eqb, List, [], ◌∷◌, ◌++◌, length, Option, Some, None, refl, sym, ap, ◌∙◌, subst, arith}
 use Rattle.std.specs.List.{AllByRecursion, Contains}
 use Rattle.std.specs.Option.{option_and_then}
@@ -50,7 +50,7 @@ epoch_on On same_epoch (first ∷ before) (grown ∷ now) epoch one on is = go (
 keeps_epoch : (a b : EpochAccount) → EpochGoesOn a b → b.epoch ≡ a.epoch
 keeps_epoch a b on = on.same_epoch
 
--- ---- told events
+-- ---- reported events
 
 settles_on : (wires now : List WireTold) (fate : Fate) (place later : Option Place) → WiresGoOn wires now → PlaceGoesOn place later → SettlesAs wires fate place → SettlesAs now fate later
 settles_on wires now (DroppedBy rule) place later grow on settled = tt
@@ -93,7 +93,7 @@ closes_on wires later before now offset grow on closes =
       ends = ap (last_end now.start) front.same_spans ∙ ap (λ (n : ℕ). last_end n (spans_of closes.front)) on.same_start ∙ closes.ends;
     }
 
--- where nothing more is told, all of it
+-- if nothing more is reported, all of it
 pub record AllGrown (wires : List WireTold) (before now : List AccountedEvent) : Type 0 where
   pub each : AllByRecursion (IsSettled wires) now
   pub same_spans : spans_of now ≡ spans_of before
@@ -124,7 +124,7 @@ stays_kept before now wires later row on grow kept =
       closes = closes_on wires later kept.epoch epoch.now row.offset grow epoch.on kept.closes;
     }
 
--- ---- only told events are sent
+-- ---- only reported events are sent
 
 record Parts (account : List SlotAccount) (slot epoch : ℕ) (found : EpochAccount) : Type 0 where
   one : SlotAccount

@@ -71,7 +71,7 @@ kept_in_image closes account opening wires notes rows in_rows backed over key ro
       | inr opened ↦ inr (as_opened key opening row opened.1)
     ]
 
--- a key to which no Begin gave a slot was not begun, where each slot of the account has its Begin among the notes
+-- a key to which no Begin gave a slot was not begun, if each slot of the account has its Begin among the notes
 pub unbegun : (account : List SlotAccount) (notes : List Note) (key : List ℕ) → AreBegun account notes → slots_for key notes ≡ [] → IsUnbegun account key
 unbegun [] notes key begun none = tt
 unbegun (one ∷ account) notes key begun none =

@@ -27,7 +27,7 @@ within_left xs ys = λ k d inside. Contains-append_left xs ys _ (Contains-get_or
 within_right : (xs ys : List ℕ) → All (Contains (xs ++ ys)) ys
 within_right xs ys = λ k d inside. Contains-append_right xs ys _ (Contains-get_or ys k d inside)
 
--- the first settled events of what was told are told
+-- the first settled events of what was reported are reported
 front_told : (rules : Rules) (licences life : List ℕ) (start : ℕ) (told first rest : List AccountedEvent) → told ≡ first ++ rest → AreTold rules licences life start (events_of told) →
     AreTold rules licences life start (events_of first)
 front_told rules licences life start told first rest is all =

@@ -1,4 +1,4 @@
--- Keys are told apart: of two inputs whose ids have no colon, keys that name a path are the same only where the ids are, and
+-- Keys are distinguished: of two inputs whose ids have no colon, keys that name a path are the same only if the ids are, and
 -- the paths.
 use Rattle.std.proofs.Common.{◌≡◌, ◌≢◌, ℕ, List, [], ◌∷◌, ◌++◌, codes, refl, sym, ap, ◌∙◌}
 use Rattle.std.proofs.lemmas.List.{append_cancel_left}
@@ -9,7 +9,7 @@ use Rattle.kept_rows.specs.Followed.{IsKeyOf}
 abbrev pub HasNoColon : List ℕ → Type 0
 HasNoColon text = AllByRecursion (λ byte. byte ≢ 58) text
 
--- what stands before the first colon, and what stands behind it
+-- what is before the first colon, and what follows it
 same_parts : (first second behind after : List ℕ) → HasNoColon first → HasNoColon second → first ++ 58 ∷ behind ≡ second ++ 58 ∷ after → (first ≡ second) × (behind ≡ after)
 same_parts [] [] behind after none none_there is =
     let q : 58 ∷ behind ≡ 58 ∷ after = is in
@@ -30,7 +30,7 @@ same_parts (byte ∷ first) (other ∷ second) behind after none none_there is =
     let both = same_parts first second behind after none.1 none_there.1 rest in
     (ap (λ (n : ℕ). n ∷ first) same ∙ ap (λ (l : List ℕ). other ∷ l) both.0, both.1)
 
--- what stands in a key of a path behind its first word
+-- what is in a key of a path after its first word
 behind_the_word : (id path : List ℕ) → id ++ codes "::" ++ codes "path" ++ codes "::" ++ path ≡ id ++ (codes "::path::" ++ path)
 behind_the_word [] path = refl
 behind_the_word (byte ∷ id) path = ap (λ (l : List ℕ). byte ∷ l) (behind_the_word id path)

@@ -60,7 +60,7 @@ b_answered = record { windows = sent_windows (codes "b"); sent = are_windows (co
 c_answered : Acknowledges (answered (codes "c")) (codes "c" ∷ [])
 c_answered = record { windows = sent_windows (codes "c"); sent = are_windows (codes "c") (lit≤ tt); are = refl }
 
--- ---- truncated between two reads: the row of epoch 1 stands at 2
+-- ---- truncated between two reads: the row of epoch 1 is at 2
 
 abbrev look : Question → ℕ → ℕ → Look
 look question life length = record { question = question; sight = record { life = life; length = length } }
@@ -171,7 +171,7 @@ broken = wire_with (one_window (codes "a") ∷ []) ∷ wire_with (answered (code
 second_first : ClosesSettled broken (told_by None) 0
 second_first = record { front = []; rest = (told_by None).told; told_is = refl; each = tt; ends = refl }
 
--- a row behind both is refused as long as the first has no place
+-- a row after both is refused as long as the first has no place
 not_behind_both : ClosesSettled broken (told_by None) 4 → ⊥
 not_behind_both closes = go closes.front closes.rest closes.told_is closes.each closes.ends
   where

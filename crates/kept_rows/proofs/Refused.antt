@@ -1,4 +1,4 @@
--- What is refused, and what is kept beside it: a row behind an event that is not acknowledged, a row before one that is, one place for two
+-- What is refused, and what is kept beside it: a row after an event that is not acknowledged, a row before one that is, one place for two
 -- payloads, an image that is further than what was collected, and a folder that is not drained.
 use Rattle.std.proofs.Common.{◌≡◌, ℕ, zero, suc, false, List, [], ◌∷◌, ◌++◌, length, Option, Some, None, refl, sym, ap, ◌∙◌, subst, arith, append-nil, codes, get_or, length-append}
 use Rattle.std.specs.List.{AllByRecursion, slice_get}
@@ -48,7 +48,7 @@ second_payload = payload (codes "2") (codes "b")
 half_acknowledged : Acknowledges half_talk.pieces (first_payload ∷ [])
 half_acknowledged = record { windows = payloads ∷ []; sent = record { each = (window, tt); rest = []; whole = sym (append-nil (window_bytes payloads ++ [])); cut = none_in_nothing }; are = refl }
 
--- the row behind the first is kept
+-- the row after the first is kept
 abbrev first_place : Place
 first_place = record { wire = 0; connection = 0; number = 0 }
 
@@ -67,7 +67,7 @@ one_reading talk p q first second =
     let windows = are_once (out_bytes talk) first.windows second.windows first.sent second.sent in
     first.are ∙ ap (λ (ws : List (List (List ℕ))). payloads_by (answers ws talk [] 0 (acknowledgements (in_bytes talk))) 1 ws) windows ∙ sym second.are
 
--- so the second payload stands at no place
+-- so the second payload is at no place
 payloads_differ : first_payload ≡ second_payload → ⊥
 payloads_differ same =
     let byte : 48 ≡ 50 = ap (λ (p : List ℕ). get_or p 114 0) same in
@@ -99,7 +99,7 @@ second_is_nowhere place at = by_wire place.wire at.wire_is
         let list : first_payload ∷ [] ≡ at.acknowledged = one_reading at.talk (first_payload ∷ []) at.acknowledged (subst (λ (t : List Piece). Acknowledges t (first_payload ∷ [])) talk half_acknowledged) at.acknowledges in
         payloads_differ (no_other place.number second_payload (ap (λ (l : List (List ℕ)). slice_get l place.number) list ∙ at.stands))
 
--- so whatever places an account gives them, no row behind both is kept
+-- so whatever places an account gives them, no row after both is kept
 abbrev told_at : Option Place → Option Place → EpochAccount
 told_at first second = record epoch_account {
   told = record { event = event_of first_line first_payload; reading = 0; place = first } ∷ record { event = event_of second_line second_payload; reading = 0; place = second } ∷ [];

@@ -1,5 +1,5 @@
 -- Worked scans: a row whose file is no longer there goes rightly, and one whose file is listed does not; a file that was
--- renamed while it was open is told by the path of a scan that showed it.
+-- renamed while it was open is reported by the path of a scan that showed it.
 use Rattle.std.proofs.Common.{◌≡◌, ◌≢◌, inl, inr, ℕ, zero, suc, ◌<◌, true, false, List, [], ◌∷◌, Some, None, refl, sym, ap, ◌∙◌, subst, arith, append-nil, lit≤, codes}
 use Rattle.std.specs.Char.{encode_utf8}
 use Rattle.std.specs.List.{Contains, slice_get}
@@ -103,7 +103,7 @@ absent_row_goes_rightly = record { lost = absent_row_went; newest = ((λ same. o
 
 -- ---- read to its end and settled
 
--- where the premises of the slot hold, a row at the end of the last complete line at the end look, or at the start place, would be kept
+-- if the premises of the slot hold, a row at the end of the last complete line at the end look, or at the start place, would be kept
 pub row_at_the_end_would_be_kept : (run : Run) (wires : List WireTold) (rule : InputRule) (scan : Scan) (one : SlotAccount) (read : IsReadAndSettled run wires rule scan one) →
     SlotPremises run one.following → ClosesSettled wires read.epoch (whole_lines_end rule.lines (life_of read.file read.epoch.life) read.epoch.start read.place)
 row_at_the_end_would_be_kept run wires rule scan one read premises =
@@ -226,7 +226,7 @@ epoch_read = record { epoch = 0; start = 0; life = 0; readings = renamed_reading
 abbrev told_by : List ℕ → ToldEvent
 told_by path = record { span = first_line.span; path = path; now = 0; fate = (event_of first_line (payload (codes "0") (codes "a"))).fate }
 
--- the event is told by the new path
+-- the event is reported by the new path
 pub told_by_the_new_path : IsPathOf renamed_run renamed epoch_read (record { event = told_by b_log; reading = 0; place = None })
 told_by_the_new_path = record {
   reading = renamed_reading;

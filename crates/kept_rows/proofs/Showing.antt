@@ -32,7 +32,7 @@ both P (x ∷ xs) ys first second = (first.0, both P xs ys first.1 second)
 pub event_stays : (before now : Trace) (place : ℕ) (event : Event) → TraceGoesOn before now → slice_get before.events place ≡ Some event → slice_get now.events place ≡ Some event
 event_stays before now place event on is = ap (λ (l : List Event). slice_get l place) on.events ∙ got_in_front before.events on.more_events place event is
 
--- what stands at a place that was there before stood there before
+-- what is at a place that was there before was there before
 event_was : (before now : Trace) (place : ℕ) (old event : Event) → TraceGoesOn before now → slice_get before.events place ≡ Some old → slice_get now.events place ≡ Some event → event ≡ old
 event_was before now place old event on was is =
     let q : Some event ≡ Some old = sym is ∙ event_stays before now place old on was in
@@ -47,7 +47,7 @@ closing_stays opening (event ∷ events) more closing is = go (closing_by openin
     go None e again = again e
     go (Some first) e again = e
 
--- behind so many of them, too
+-- after this many of them, too
 closing_stays_behind : (count opening : ℕ) (events more : List Event) (closing : Closing) → closing_in opening (drop count events) ≡ Some closing → closing_in opening (drop count (events ++ more)) ≡ Some closing
 closing_stays_behind zero opening events more closing is = closing_stays opening events more closing is
 closing_stays_behind (suc count) opening [] more closing is = absurd (let q : None ≡ Some closing = is in cc)
@@ -116,7 +116,7 @@ gone_stays before now opening path on gone = record {
   not_there = event_stays before now opening (NotThere path) on gone.not_there;
 }
 
--- a tail that was asked and closed tells the same
+-- a tail that was asked and closed reports the same
 asked_stays : (before now : Trace) (rule : IdentityRule) (path : List ℕ) (opening : ℕ) → TraceGoesOn before now → WasAskedByTail before rule path opening → WasAskedByTail now rule path opening
 asked_stays before now rule path opening on asked =
     let closed = closed_stays before now opening (record { looks = asked.looks; faults = 0 }) on asked.closed in
@@ -210,7 +210,7 @@ asking_of : (run : Run) (scan : Scan) (asking : Asking) → IsWhole run scan →
 asking_of run scan asking whole there =
     All-contains (WasAskedWell run scan) scan.askings asking (All-from_recursion (WasAskedWell run scan) scan.askings whole.none_faulty) there
 
--- its opening, where it has one, stands in the list
+-- its opening, if it has one, is in the list
 stands_within : (trace : Trace) (rule : IdentityRule) (path : List ℕ) (opening : ℕ) → MetNoFault trace rule path (Some opening) → opening < length trace.events
 stands_within trace rule path opening (reads, inl asked) = slice_get_within trace.events opening (Opened path asked.number asked.tail.begun) asked.tail.opened
 stands_within trace rule path opening (reads, inr gone) = slice_get_within trace.events opening (NotThere path) gone.not_there
@@ -253,7 +253,7 @@ asks_was before now scan shown input asking on whole asks = record {
   path_is = asks.path_is;
 }
 
--- the asking of a whole scan met no fault, by the rule of its input
+-- the asking of a whole scan hit no fault, by the rule of its input
 pub asked_well : (run : Run) (scan : Scan) (shown : Shown) (input : ℕ) (asking : Asking) (rule : InputRule) → IsWhole run scan → AsksFor run scan shown input asking →
     slice_get run.settings.inputs input ≡ Some rule → MetNoFault run.trace rule.file_identity shown.entry.path asking.opening
 asked_well run scan shown input asking rule whole asks is =

@@ -25,7 +25,7 @@ pub record Covers : Type 0 where
   pub none : (spans : List Extent) (place : ℕ) → next_end spans place ≡ None → covered_end spans place ≡ place
   pub some : (spans : List Extent) (place end : ℕ) → next_end spans place ≡ Some end → covered_end spans place ≡ covered_end spans end
 
--- each of the spans that begins from this place on was told
+-- each of the spans that begins from this place on was reported
 abbrev KnownFrom : List Extent → List Extent → ℕ → Type 0
 KnownFrom spans told place = (span : Extent) → Contains spans span → place ≤ span.start → span.start < span.end → Contains told span
 
@@ -36,7 +36,7 @@ known_later spans told first place adjoin known span there behind some = by_case
     by_case (inl same) = absurd (let start : first.start ≡ span.start = ap (λ (s : Extent). s.start) same in omega (arith, start, behind, adjoin.0, adjoin.1))
     by_case (inr there) = there
 
--- the first of those told is what is found at its place
+-- the first of those reported is what is found at its place
 found_first : (spans told : List Extent) (first : Extent) (place end : ℕ) → Adjoin place (first ∷ told) → KnownFrom spans (first ∷ told) place → IsFound spans place end → first.end ≡ end
 found_first spans told first place end adjoin known found =
     by_case (there_cases first found.span told (known found.span found.there (omega (arith, found.start)) (omega (arith, found.start, found.end_is, found.behind))))
@@ -45,7 +45,7 @@ found_first spans told first place end adjoin known found =
     by_case (inl same) = ap (λ (s : Extent). s.end) same ∙ found.end_is
     by_case (inr later) = absurd (omega (arith, adjoining_behind first.end told found.span adjoin.2 later, found.start, adjoin.1, adjoin.0))
 
--- no span of those told begins at a covered end
+-- no span of those reported begins at a covered end
 covered_in_full : Covers → (spans told : List Extent) (place : ℕ) → Adjoin place told → KnownFrom spans told place → next_end spans (covered_end spans place) ≡ None
 covered_in_full covers spans [] place adjoin known = by_next (next_end spans place) refl
   where
@@ -62,7 +62,7 @@ covered_in_full covers spans (first ∷ told) place adjoin known =
     by_next (Some end) some later =
         ap (next_end spans) (covers.some spans place end some ∙ ap (covered_end spans) (sym (found_first spans told first place end adjoin known (found_span spans place end some)))) ∙ later
 
--- told events are not empty
+-- reported events are not empty
 some_told : (start : ℕ) (told : List AccountedEvent) → Adjoin start (spans_of told) → AllByRecursion (λ one. one.event.span.start < one.event.span.end) told
 some_told start [] adjoin = tt
 some_told start (one ∷ told) adjoin = (let begins = adjoin.0 in let some = adjoin.1 in omega (arith, begins, some), some_told one.event.span.end told adjoin.2)

@@ -1,4 +1,4 @@
--- Where the premises hold of all slots, what is said slot by slot is said of the run as a whole.
+-- If the premises hold of all slots, what is said slot by slot is said of the run as a whole.
 use Rattle.std.proofs.Common.{inl, inr, ℕ, List, [], ◌∷◌, Contains, map, subst}
 use Rattle.std.specs.List.{AllByRecursion}
 use Rattle.event_tree.specs.declared.input_rule.InputRule.{InputRule}

@@ -1,4 +1,4 @@
--- A status of done over a file that is not read to its end is refused: the row of the two plain lines stands at 2, whatever
+-- A status of done over a file that is not read to its end is refused: the row of the two plain lines is at 2, whatever
 -- the account and the run tell besides.
 use Rattle.std.proofs.Common.{◌≡◌, inl, inr, ℕ, zero, suc, List, [], ◌∷◌, ◌++◌, length, Option, Some, None, refl, sym, ap, ◌∙◌, subst, arith, length-append}
 use Rattle.std.specs.List.{Contains, slice_get}

@@ -1,5 +1,5 @@
 -- A worked account: the file of two plain lines, read once, both events acknowledged. The row at its end is kept, the
--- folder is drained, only told events were sent, and the premises hold. Before the run the folder took a tail of another
+-- folder is drained, only reported events were sent, and the premises hold. Before the run the folder took a tail of another
 -- folder back, which had the number that the run's own opening gets only later.
 use Rattle.std.proofs.Common.{◌≡◌, ◌≢◌, inl, inr, ℕ, zero, suc, ◌<◌, ◌≤◌, true, false, List, [], ◌∷◌, ◌++◌, Some, None, refl, sym, ap, ◌∙◌, subst, arith, append-nil, lit≤, codes}
 use Rattle.std.specs.Char.{encode_utf8}
@@ -95,7 +95,7 @@ look question = record { question = question; sight = sight }
 abbrev pub looks : List Look
 looks = look Length ∷ look (ReadAt 0 4) ∷ look Length ∷ look (ReadAt 4 0) ∷ []
 
--- what the other folder's tail told
+-- what the other folder's tail reported
 abbrev pub older_looks : List Look
 older_looks = look Length ∷ []
 
@@ -253,7 +253,7 @@ whole = record {
         record { asking = record { input = 0; path = a_log; opening = None }; asks = subst (λ (s : Shown). AsksFor run scan s 0 (record { input = 0; path = a_log; opening = None })) (only_entry other shows) asks }
     by_input other (suc number) rule shows is in_glob = absurd (let q : None ≡ Some rule = is in cc)
 
--- a scan that names an opening for the key of a path is not whole, whatever that opening told
+-- a scan that names an opening for the key of a path is not whole, whatever that opening reported
 opened_scan_is_refused : IsWhole run (record scan { askings = record { input = 0; path = a_log; opening = Some 1 } ∷ [] }) → ⊥
 opened_scan_is_refused is =
     let asked = is.none_faulty.0 in
@@ -407,7 +407,7 @@ is_account = record {
       | inr nothing ↦ none_there (at 0) nothing
     ]
 
--- so it is slot by slot
+-- the same holds slot by slot
 pub are_slot_accounts : AreSlotAccounts run (slot_account ∷ [])
 are_slot_accounts = record { epochs = (is_account.each.0.epochs, tt); each = ((λ supposed. is_account.each.0), tt); places_apart = is_account.places_apart }
 
@@ -444,7 +444,7 @@ only_slot other one is same =
 pub both_lines_are_kept : IsKept (slot_account ∷ []) [] wires row
 both_lines_are_kept = inl (record { told = both_lines_are_told; newest = only_slot })
 
--- where the key has a newer slot, no row of this one is kept
+-- if the key has a newer slot, no row of this one is kept
 abbrev newer : SlotAccount
 newer = record slot_account { following = record following { slot = 1; known_from = 1; tails = [] } }
 
@@ -507,11 +507,11 @@ is_drained = record { scan = scan; first = refl; whole = whole; each = by_input 
         (subst (λ (r : InputRule). IsDoneWith NothingSupposed run (slot_account ∷ []) (row ∷ []) r scan shown 0) same done_with)
     by_input other (suc number) rule shows is in_glob = absurd (let q : None ≡ Some rule = is in cc)
 
--- so it is slot by slot
+-- the same holds slot by slot
 pub drained_by_slots : IsDrainedBySlots run (slot_account ∷ []) (row ∷ [])
 drained_by_slots = still_drained NothingSupposed SeesTruncationsOf run (slot_account ∷ []) (row ∷ []) (λ one there sees. tt) is_drained
 
--- ---- only told events were sent
+-- ---- only reported events were sent
 
 abbrev at_zero : ToldAt
 at_zero = record { slot = 0; epoch = 0; start = 0 }

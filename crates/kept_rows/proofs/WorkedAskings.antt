@@ -72,7 +72,7 @@ entry opening = record {
   among = (0, omega arith, refl);
 }
 
--- ---- the opening right behind the listing is that of the asking
+-- ---- the opening right after the listing is that of the asking
 
 in_order : AsksInOrder (run_with 1) (scan_at 1)
 in_order = record {
@@ -149,7 +149,7 @@ late_shows_nothing key shows = elim (there_cases (asking_at 3) to.asking [] to.a
     to : ShowsFileTo (run_with 3) (scan_at 3) shows.shows.shows.0 key number shown
     to = shows.shows.shows.1
 
--- ---- of two inputs, the one that stands first in the settings asks first
+-- ---- of two inputs, the one that comes first in the settings asks first
 
 abbrev asking_of : ℕ → ℕ → Asking
 asking_of input opening = record { input = input; path = a_log; opening = Some opening }

@@ -130,7 +130,7 @@ b_account = record { following = b_following; number = 2; changed = 0; epochs = 
 abbrev pub account : List SlotAccount
 account = slot_account ∷ b_account ∷ []
 
--- the row that was stored of it, behind the second line of the life that is gone
+-- the row that was stored of it, after the second line of the life that is gone
 abbrev pub b_row : Row
 b_row = record { key = b_key; path = b_log; epoch = record { 0 = 0 }; offset = 4; changed = record { 0 = 0 } }
 

@@ -297,7 +297,7 @@ a_done = inr (inr (record {
   };
 }))
 
--- the end of the second one was found, but its row does not stand at the end of a line of the life that was there
+-- the end of the second one was found, but its row is not at the end of a line of the life that was there
 b_done : IsDoneWith SeesTruncationsOf two_files account rows input both_listed b_shown 0
 b_done = inr (inr (record {
   key = b_key;

@@ -1,4 +1,4 @@
--- What the calls of a lane keep, one behind the other.
+-- What the calls of a lane keep, one after another.
 use Rattle.std.proofs.Common.{◌≡◌, inl, inr, ℕ, ◌+◌, List, [], ◌∷◌, ◌++◌, All, Option, Some, None, length, refl, sym, ap, subst, ◌∙◌, append_assoc, append-nil, arith}
 use Rattle.std.specs.Prelude.{slice_get}
 use Rattle.std.proofs.lemmas.List.{length-set}
@@ -92,7 +92,7 @@ module _ {T : Type 0} (numbers : T → Option (ℕ × ℕ)) (told : T → Option
   run_on [] then a b c is run = subst (λ (l : List (Harvester T)). Run numbers told faults then l c) is run
   run_on (s ∷ ss) then a b c first run = (first.0, first.1, run_on ss then first.0 b c first.2 run)
 
-  -- ---- nothing happens, and one thing behind the other
+  -- ---- nothing happens, and one thing after the other
 
   unfoldable pub keeps_same : (lane : Laning T) → LaneKeeps numbers told faults lane lane
   keeps_same lane = record {

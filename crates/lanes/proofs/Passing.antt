@@ -1,4 +1,4 @@
--- Turns of some of a lane's harvesters, one behind the other.
+-- Turns of some of a lane's harvesters, one after another.
 use Rattle.std.specs.List.{AllByRecursion}
 use Rattle.std.specs.Prelude.{◌==◌, IsErrAnd, OnOk, Result, Ok, Err, slice_get, slice_set}
 use Rattle.std.proofs.Common.{◌≡◌, ◌≢◌, ◌⊎◌, inl, inr, ℕ, zero, suc, ◌+◌, ◌-◌, ◌<◌, ◌≤◌, min, Bool, true, false, List, [], ◌∷◌, ◌++◌, Option, length, refl, sym, ap, subst, ◌∙◌, append_assoc, append-nil, length-append, arith}
@@ -136,7 +136,7 @@ module _ {T : Type 0} (numbers : T → Option (ℕ × ℕ)) (told : T → Option
   changed_before : (i : ℕ) (xs ys : List (Harvester T)) → slice_get ys i ≡ slice_get xs i → ChangedAt i ys → ChangedAt i xs
   changed_before i xs ys same c = record { one = c.one; is = sym same ∙ c.is; changed = c.changed }
 
-  -- ---- nothing happens, and one thing behind the other
+  -- ---- nothing happens, and one thing after the other
 
   none_turned : (when : When) (from to : ℕ) (lane : Laning T) → LaneTurns numbers told faults when from to lane lane
   unfolding keeps_same

@@ -19,7 +19,7 @@ abbrev pub bytes_in : List ℕ → Cut → List ℕ
 bytes_in t (rest bytes) = bytes
 bytes_in t (line body behind) = body ++ (t ++ bytes_in t behind)
 
--- the same bytes, and others behind them
+-- the same bytes, and others after them
 abbrev pub graft : List ℕ → Cut → List ℕ → Cut
 graft t (rest bytes) more = cut t (bytes ++ more)
 graft t (line body behind) more = line body (graft t behind more)
@@ -29,7 +29,7 @@ bytes_in-front t x (rest bytes) = refl
 bytes_in-front t x (line body behind) = refl
 
 module _ (t : List ℕ) (some : 0 < length t) where
-  -- where the terminator stands in front
+  -- where the terminator is in front
   at_front : (x : ℕ) (xs : List ℕ) → take (length t) (x ∷ xs) ≡ t → cut t (x ∷ xs) ≡ line [] (cut_behind t (length t - 1) xs)
   at_front x xs s = cond-true _ _ _ ((bytes_eq-Decides (take (length t) (x ∷ xs)) t).1 s)
 
@@ -41,12 +41,12 @@ module _ (t : List ℕ) (some : 0 < length t) where
   behind_front : (x : ℕ) (xs : List ℕ) → drop (length t - 1) xs ≡ drop (length t) (x ∷ xs)
   behind_front x xs = let e : length t ≡ suc (length t - 1) = omega arith in ap (λ n. drop n (x ∷ xs)) (sym e)
 
-  -- no terminator stands in the bytes
+  -- no terminator is in the bytes
   pub cut-none : (xs : List ℕ) → ((k : ℕ) → ¬ (StandsAt t xs k)) → cut t xs ≡ rest xs
   cut-none [] none = refl
   cut-none (x ∷ xs) none = past_front x xs (none 0) ∙ ap (in_front x) (cut-none xs (λ k. none (suc k)))
 
-  -- the first terminator stands at place k
+  -- the first terminator is at place k
   pub cut-first : (xs : List ℕ) (k : ℕ) → StandsAt t xs k → ((j : ℕ) → j < k → ¬ (StandsAt t xs j)) →
       cut t xs ≡ line (take k xs) (cut t (drop (k + length t) xs))
   cut-first [] k s first = absurd (omega (arith, fits t some [] k s))
@@ -80,7 +80,7 @@ module _ (t : List ℕ) (some : 0 < length t) where
   pub bytes_in-cut : (xs : List ℕ) → bytes_in t (cut t xs) ≡ xs
   bytes_in-cut xs = bytes_in-cut_behind 0 xs (omega arith)
 
-  -- bytes with others behind them
+  -- bytes with others after them
   front-graft : (x : ℕ) (xs ys : List ℕ) (c : Cut) → bytes_in t c ≡ xs → ¬ (take (length t) (x ∷ (xs ++ ys)) ≡ t) →
       in_front x (graft t c ys) ≡ graft t (in_front x c) ys
   front-graft x xs ys (rest bytes) e not_here =

@@ -49,7 +49,7 @@ drop_behind (x ∷ xs) ys n =
 -- ---- a line ends in the unread bytes
 
 module _ (cutter : Cutting) (passed : List ℕ) (kept : HasPassed cutter passed) where
-  -- no terminator stands in the bytes that ends before this place of the unread ones
+  -- no terminator is in the bytes that ends before this place of the unread ones
   none_stand : (n : ℕ) → Nowhere (λ place. is_end cutter.rule.terminator cutter.after_return cutter.unread place ≡ true) 0 n →
       (j : ℕ) → j + length (terminator_of cutter.rule.terminator) < length passed + n + 1 →
       ¬ (StandsAt (terminator_of cutter.rule.terminator) (passed ++ cutter.unread) j)
@@ -117,7 +117,7 @@ module _ (cutter : Cutting) (passed : List ℕ) (kept : HasPassed cutter passed)
     body_size =
         omega (arith, length-take body_length (passed ++ cutter.unread), length-append passed cutter.unread, room, some_byte cutter.rule.terminator)
 
-    -- the bytes of the line are cut from those behind it
+    -- the bytes of the line are cut from those after it
     pub cut_there : cut (terminator_of cutter.rule.terminator) (passed ++ cutter.unread)
         ≡ line body (cut (terminator_of cutter.rule.terminator) (drop (at + 1) cutter.unread))
     cut_there =
@@ -163,7 +163,7 @@ module _ (cutter : Cutting) (passed : List ℕ) (kept : HasPassed cutter passed)
     kept_whole : take (cutter.passed + at) (passed ++ take at cutter.unread) ≡ passed ++ take at cutter.unread
     kept_whole = take_all (cutter.passed + at) (passed ++ take at cutter.unread) (omega (arith, kept.number, before_last_size))
 
-    -- the content, by what stands before the terminator's last byte
+    -- the content, by what is before the terminator's last byte
     content_by : (terminator : Terminator) → is_end terminator cutter.after_return cutter.unread at ≡ true →
         content_of terminator (take (length passed + at + 1 - length (terminator_of terminator)) (passed ++ cutter.unread))
         ≡ take (cond (leaves_return terminator && return_before cutter.after_return cutter.unread at) (cutter.passed + at - 1) (cutter.passed + at))

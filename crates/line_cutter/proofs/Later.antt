@@ -1,4 +1,4 @@
--- Lines adjoin, and the lines behind one are those of the bytes behind it.
+-- Lines adjoin, and the lines after one are those of the bytes after it.
 use Rattle.std.proofs.Common.{◌≡◌, ℕ, suc, ◌+◌, ◌-◌, ◌<◌, List, [], ◌∷◌, ◌++◌, length, take, drop, refl, sym, ap, subst, ◌∙◌, inl, inr, arith, zero-add}
 use Rattle.std.proofs.lemmas.Bool.{cases_Bool, cond-true, cond-false}
 use Rattle.std.proofs.lemmas.List.{drop-drop}
@@ -46,7 +46,7 @@ module _ (rule : LineRule) where
   adjoining_in start (rest bytes) = tt
   adjoining_in start (line body behind) = (refl, omega (arith, some_byte rule.terminator), adjoining_in (end_of rule start body) behind)
 
-  -- each line ends behind the place of the first byte
+  -- each line ends after the place of the first byte
   ends_later : (start : ℕ) (c : Cut) (given : List Line) (one : Line) (more : List Line) → lines_in rule start c ≡ given ++ one ∷ more →
       start < one.span.end
   ends_later start (rest bytes) [] one more e = absurd (cc)
@@ -75,7 +75,7 @@ module _ (rule : LineRule) where
         ap (λ m. complete_lines rule one.span.end (drop m xs)) n ∙ ap (lines_in rule one.span.end) (sym there)
         ∙ ap (λ m. lines_in rule m behind) (sym place) ∙ later
 
-    -- or it is one of those behind it
+    -- or it is one of those after it
     behind_later : (first : Line) (given : List Line) →
         ((from : ℕ) (ys : List ℕ) → complete_lines rule from ys ≡ given ++ one ∷ more → complete_lines rule one.span.end (drop (one.span.end - from) ys) ≡ more) →
         (c : Cut) → cut (terminator_of rule.terminator) xs ≡ c → lines_in rule start c ≡ first ∷ (given ++ one ∷ more) →

@@ -55,7 +55,7 @@ module _ (rule : LineRule) where
       let t = terminator_of rule.terminator in
       place_in-length start (cut t bytes) ∙ ap (λ xs. start + length xs) (bytes_in-cut t (some_byte rule.terminator) bytes)
 
-  -- the same behind bytes of whole lines
+  -- the same after bytes of whole lines
   pub complete_lines-whole : (start : ℕ) (bytes more : List ℕ) → unended rule bytes ≡ [] →
       complete_lines rule start (bytes ++ more) ≡ complete_lines rule start bytes ++ complete_lines rule (start + length bytes) more
   complete_lines-whole start bytes more whole =

@@ -16,7 +16,7 @@ module _ (after : Bool) (bytes : List ℕ) (from : ℕ) (fit : from ≤ length b
   pub behind_length : from + length (take (length bytes - from) (drop from bytes)) ≡ length bytes
   behind_length = omega (arith, ap length (take_rest bytes from), length-drop from bytes)
 
-  -- no line feed stands in so many bytes behind
+  -- no line feed is in this many bytes after
   pub none_up_to : (n : ℕ) → Nowhere (Passes (is_byte 10) (take (length bytes - from) (drop from bytes))) 0 n →
       Nowhere (EndsPair after bytes) 0 (from + n)
   none_up_to n none k low high ends = elim (cases_lt k from) [
@@ -28,7 +28,7 @@ module _ (after : Bool) (bytes : List ℕ) (from : ℕ) (fit : from ≤ length b
         (ap (λ x. x == 10) (behind_byte (k - from) ∙ ap (λ j. get_or bytes j 0) at) ∙ parts.0)
   ]
 
-  -- a line feed stands there, with a carriage return before it
+  -- a line feed is there, with a carriage return before it
   pub first_pair : (n : ℕ) → NoneBefore (Passes (is_byte 10) (take (length bytes - from) (drop from bytes))) 0
       (length (take (length bytes - from) (drop from bytes))) n → Passes (is_byte 10) (take (length bytes - from) (drop from bytes)) n →
       return_before after bytes (from + n) ≡ true → NoneBefore (EndsPair after bytes) 0 (length bytes) (from + n) × EndsPair after bytes (from + n)

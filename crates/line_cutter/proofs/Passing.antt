@@ -13,7 +13,7 @@ module _ (passed unread : List ℕ) (after : Bool) (is_after : after ≡ ends_in
   byte_there : (k : ℕ) → get_or (passed ++ unread) (length passed + k) 0 ≡ get_or unread k 0
   byte_there k = get_or-append-add passed unread k 0
 
-  -- the byte before a place of the unread bytes, where there is one
+  -- the byte before a place of the unread bytes, if there is one
   pub return_before-byte : (k : ℕ) → 0 < length passed + k →
       return_before after unread k ≡ (get_or (passed ++ unread) (length passed + k - 1) 0 == 13)
   return_before-byte zero some =
@@ -57,7 +57,7 @@ module _ (passed unread : List ℕ) (after : Bool) (is_after : after ≡ ends_in
             ∙ sym (get_or-append_right passed unread (length passed) _ 0 refl right)
       ]
 
-  -- a terminator that ends in the unread bytes stands there
+  -- a terminator that ends in the unread bytes is there
   pub stands_where_it_ends : (terminator : Terminator) (k : ℕ) → k < length unread → is_end terminator after unread k ≡ true →
       StandsAt (terminator_of terminator) (passed ++ unread) (length passed + k + 1 - length (terminator_of terminator))
   stands_where_it_ends terminator k within ends = ends_one terminator k within ends
@@ -88,7 +88,7 @@ module _ (passed unread : List ℕ) (after : Bool) (is_after : after ≡ ends_in
       ends_one CarriageReturnLineFeed k within ends = pair k within ends
       ends_one NullTerminator k within ends = one 0 k within ends
 
-  -- and a terminator that stands there and reaches into the unread bytes ends in them
+  -- and a terminator that is there and reaches into the unread bytes ends in them
   pub ends_where_it_stands : (terminator : Terminator) (j : ℕ) → StandsAt (terminator_of terminator) (passed ++ unread) j →
       length passed < j + length (terminator_of terminator) →
       (j + length (terminator_of terminator) - 1 - length passed < length unread)

@@ -1,4 +1,4 @@
--- Where a terminator stands in bytes, as facts on single bytes.
+-- Where a terminator is in bytes, as facts on single bytes.
 use Rattle.std.proofs.Common.{◌≡◌, ℕ, ◌+◌, ◌<◌, ◌≤◌, List, [], ◌∷◌, ◌++◌, length, take, drop, get_or, sym, ap, ◌∙◌, arith, length-take, length-drop, lit<}
 use Rattle.std.proofs.lemmas.List.{drop_more, take-append-le, drop-append-le}
 use Rattle.line_cutter.specs.Terminator.{StandsAt}

@@ -38,7 +38,7 @@ among include exclude message excluded some matched is = by_exclusion include ex
 
 -- ---- lists of patterns
 
--- where there is no pattern, none is missed
+-- if there is no pattern, none is missed
 pub none_left_out : (include : List (List ℕ)) (message : List ℕ) → length include ≡ 0 → is_not_included include message ≡ false
 none_left_out [] message none = refl
 none_left_out (pattern ∷ patterns) message none = absurd (omega arith)

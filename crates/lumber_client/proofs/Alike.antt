@@ -17,7 +17,7 @@ record AreAlike (a b : List Piece) : Type 0 where
   received : in_bytes b ≡ in_bytes a
   before : (place : ℕ) → out_before b place ≡ out_before a place
 
--- ---- pieces that were received one behind the other
+-- ---- pieces that were received one after another
 
 nothing_before : (first second both : Bool) (none : ℕ) → cond both none none ≡ cond first none (cond second none none)
 nothing_before true second true none = refl

@@ -121,7 +121,7 @@ answered_more begun given full count counts done last number a more few =
       last_count = a.last_count;
     }
 
--- where the windows in flight have parcels, so have the younger ones
+-- if the windows in flight have parcels, so have the younger ones
 some_younger : (flying : List (List Parcel)) (counts : List ℕ) → AllByRecursion IsWindow (windows_of flying) → sizes flying ≡ counts → IsPart 0 counts
 some_younger [] counts each is = subst (λ (all : List ℕ). IsPart 0 all) is refl
 some_younger (parcels ∷ flying) counts each is =

@@ -19,7 +19,7 @@ some_flying : (flying : List (List Parcel)) (count : ℕ) (counts : List ℕ) �
 some_flying [] count counts is = absurd cc
 some_flying (parcels ∷ flying) count counts is = omega arith
 
--- where none is in flight, it asks of the last
+-- if none is in flight, it asks of the last
 asks_last : (begun : List (List Parcel)) (given : List Answer) (full done last out : ℕ) → AreAnswered begun given full [] done last → whole_within (windows_of begun) out ≡ length begun → asked (windows_of begun) given out ≡ full
 asks_last begun given full done last out a whole =
     let none = none_flying a.flying a.counts in

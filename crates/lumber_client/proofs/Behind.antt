@@ -1,4 +1,4 @@
--- Behind a peer's fault nothing counts, whatever is sent and received afterwards.
+-- After a peer's fault nothing counts, whatever is sent and received afterwards.
 use Rattle.std.proofs.Common.{◌≡◌, ℕ, suc, ◌+◌, ◌*◌, ◌<◌, ◌≤◌, ◌&&◌, Bool, true, false, cond, eqb, List, [], ◌∷◌, ◌++◌, length, take, drop, refl, sym, ap, subst, ◌∙◌, arith, inl, inr}
 use Rattle.std.specs.Int.{w32, from_be_bytes}
 use Rattle.std.proofs.lemmas.Bool.{cases_lt, eqb-true}
@@ -66,7 +66,7 @@ same_numbers (v ∷ k ∷ a ∷ b ∷ c ∷ d ∷ bytes) more none =
 
 -- ---- a number above the count
 
--- where an acknowledgement has no answer, none behind it has
+-- if an acknowledgement has no answer, none after it has
 stopped : (windows : List (List (List ℕ))) (talk : List Piece) (given : List Answer) (place : ℕ) (numbers more : List ℕ) → length (answers windows talk given place numbers) < length given + length numbers → answers windows talk given place (numbers ++ more) ≡ answers windows talk given place numbers
 stopped windows talk given place [] more less = absurd (omega (arith, less))
 stopped windows talk given place (number ∷ numbers) more less =
@@ -77,7 +77,7 @@ stopped windows talk given place (number ∷ numbers) more less =
       | inr is ↦ rw (is.0) refl
     ]
 
--- where a number is above the count, some acknowledgement has no answer
+-- if a number is above the count, some acknowledgement has no answer
 some_unanswered : (windows : List (List (List ℕ))) (talk : List Piece) (index : ℕ) → IsAboveCount windows talk index → length (answers windows talk [] 0 (acknowledgements (in_bytes talk))) < length (acknowledgements (in_bytes talk))
 some_unanswered windows talk index high =
     let numbers = acknowledgements (in_bytes talk) in

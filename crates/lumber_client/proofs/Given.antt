@@ -19,7 +19,7 @@ none_out payloads out few =
       | inr is ↦ rw (is.0) refl
     ]
 
--- a window that was begun behind them is not within the bytes of the others
+-- a window that was begun after them is not within the bytes of the others
 pub within_others : (windows : List (List (List ℕ))) (payloads : List (List ℕ)) (out : ℕ) → out ≤ length (flat_map window_bytes windows) → whole_within (windows ++ payloads ∷ []) out ≡ whole_within windows out
 within_others windows payloads out few =
     whole_stays windows (payloads ∷ []) [] out (none_out payloads) (omega (arith, few, length-append (flat_map window_bytes windows) []))

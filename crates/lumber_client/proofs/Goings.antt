@@ -147,7 +147,7 @@ pub then_lent : (test : Bool) (value : ℕ) → then_some test value ≡ cond te
 then_lent true value = refl
 then_lent false value = refl
 
--- so many bytes of the buffer may go out
+-- this many bytes of the buffer may go out
 pub front_within : (l : Laying) (payloads : List (List ℕ)) (begun n : ℕ) → l.start < length l.buffer → n ≤ length (piece_of l payloads begun) → l.start + n ≤ length l.buffer
 front_within l payloads begun n less few = omega (arith, less, few, ap length (piece_front l payloads begun less), length-drop l.start l.buffer)
 
@@ -190,7 +190,7 @@ start_all l payloads begun none =
 
 -- ---- a frame is laid
 
--- the frame stands whole behind the others
+-- the frame stands whole after the others
 pub whole_frame : (buffer head headed all payload : List ℕ) (laid : ℕ) → head ≡ json_head_bytes (laid + 1) (length payload) → headed ≡ buffer ++ head → all ≡ headed ++ payload → all ≡ buffer ++ frame_bytes (Json (suc laid) payload)
 whole_frame buffer head headed all payload laid is front back =
     let number : laid + 1 ≡ suc laid = omega arith in
@@ -210,6 +210,6 @@ cleared_out l payloads begun depth is = ap (λ (v : Laying). piece_of v payloads
 pub cleared_rest : (l : Laying) (payloads : List (List ℕ)) (begun depth : ℕ) → l ≡ nothing_laid depth → behind_of l payloads begun ≡ []
 cleared_rest l payloads begun depth is = ap (λ (v : Laying). behind_of v payloads begun) is ∙ cleared_behind depth payloads begun
 
--- nothing is behind where there is no next piece
+-- nothing follows if there is no next piece
 pub rest_none : (l : Laying) (payloads : List (List ℕ)) (begun : ℕ) → (piece_of l payloads begun ≡ [] → IsIdle l) → piece_of l payloads begun ≡ [] → behind_of l payloads begun ≡ []
 rest_none l payloads begun idle none = nothing_behind l payloads begun none (idle none)

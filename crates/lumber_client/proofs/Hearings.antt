@@ -223,7 +223,7 @@ asks_whole e frame window byte number h is =
     ∙ ap (λ (all : List Answer). asked windows all (out_before e.talk (6 * length h.numbers))) (given_is e frame window h)
     ∙ h.asks some
 
--- its answer stands behind those of the acknowledgements before it
+-- its answer follows those of the acknowledgements before it
 answers_whole : (e : Exchange) (frame : List ℕ) (window byte number : ℕ) (h : Hears e frame window) → answers (windows_of e.begun) (with_heard e byte).talk [] 0 (h.numbers ++ number ∷ []) ≡ answers (windows_of e.begun) (with_heard e byte).talk (given_in e) (0 + 6 * length h.numbers) (number ∷ [])
 answers_whole e frame window byte number h =
     let windows = windows_of e.begun in

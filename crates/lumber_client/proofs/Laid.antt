@@ -14,7 +14,7 @@ joined_first : (front lent rest : List ℕ) → first_of front lent ++ behind_fi
 joined_first [] lent rest = refl
 joined_first (byte ∷ front) lent rest = refl
 
--- the next piece and what is behind it are all that goes out
+-- the next piece and what is after it are all that goes out
 pub piece_and_behind : (l : Laying) (payloads : List (List ℕ)) (begun : ℕ) → piece_of l payloads begun ++ behind_of l payloads begun ≡ pending l payloads begun
 unfolding piece_of behind_of pending
 piece_and_behind l payloads begun = joined_first (drop l.start l.buffer) (lent_rest l.lent (last_laid l payloads begun)) (unlaid_bytes l payloads begun)
@@ -30,7 +30,7 @@ behind_none : (front lent rest : List ℕ) → first_of front lent ≡ [] → re
 behind_none [] lent rest none nothing = nothing
 behind_none (byte ∷ front) lent rest none nothing = absurd cc
 
--- nothing is behind where there is no next piece
+-- nothing follows if there is no next piece
 pub nothing_behind : (l : Laying) (payloads : List (List ℕ)) (begun : ℕ) → piece_of l payloads begun ≡ [] → IsIdle l → behind_of l payloads begun ≡ []
 unfolding piece_of behind_of
 nothing_behind l payloads begun none idle = behind_none (drop l.start l.buffer) (lent_rest l.lent (last_laid l payloads begun)) (unlaid_bytes l payloads begun) none (idle_unlaid l payloads begun idle)
@@ -81,7 +81,7 @@ pub head_pending : (l new : Laying) (payloads : List (List ℕ)) (begun : ℕ) �
 head_pending l new payloads begun start lent left few within h =
     ap (λ (v : Laying). pending v payloads begun) h.is ∙ head_spelled l payloads begun h.count h.others start lent ∙ head_step l payloads begun h.count h.others start lent left h.was (omega (arith, h.fits, rest_long l payloads begun few within))
 
--- a frame, of which so many bytes are in the buffer, and the rest of the payload is lent
+-- a frame, of which this many bytes are in the buffer, and the rest of the payload is lent
 module _ (l : Laying) (payloads : List (List ℕ)) (begun : ℕ) (start : l.start ≡ 0) (lent : l.lent ≡ None) (left : 0 < l.left) (counted : IsCounted l) (few : l.to_lay ≤ begun) (within : begun ≤ length payloads) where
   abbrev payload : List ℕ
   payload = get_or payloads (begun - l.to_lay) []
@@ -116,7 +116,7 @@ module _ (l : Laying) (payloads : List (List ℕ)) (begun : ℕ) (start : l.star
       ∙ ap (λ (o : Option ℕ). l.buffer ++ (lent_rest o (last_laid l payloads begun) ++ unlaid_bytes l payloads begun)) lent
       ∙ ap (λ (tail : List ℕ). l.buffer ++ tail) unlaid_is
 
-  -- what goes out with so many bytes in the buffer and this lent
+  -- what goes out with this many bytes in the buffer and this lent
   framed : (bytes : List ℕ) (o : Option ℕ) → pending (with_frame l bytes o) payloads begun ≡ (l.buffer ++ bytes) ++ (lent_rest o payload ++ others)
   unfolding pending unlaid_bytes last_laid rest_of
   framed bytes o =
@@ -232,7 +232,7 @@ lays_more first l new payloads begun so_far few within next =
           omega (arith, to_lay, unlaid, counted, left),
         )
 
--- where no more is laid, something is, or nothing is to be laid
+-- if no more is laid, something is, or nothing is to be laid
 lays_none : (first l : Laying) (payloads : List (List ℕ)) (begun : ℕ) → Lays first l payloads begun → LaysNoMore l → piece_of l payloads begun ≡ [] → IsIdle l
 unfolding piece_of
 lays_none first l payloads begun so_far no_more none =
@@ -266,7 +266,7 @@ refills first l payloads begun so_far no_more = record {
 
 -- ---- what a window does
 
--- the windows that are left do not look at the payloads behind theirs
+-- the windows that are left do not look at the payloads after theirs
 left_append : (counts : List ℕ) (payloads more : List (List ℕ)) → total counts ≤ length payloads → windows_left counts (payloads ++ more) ≡ windows_left counts payloads
 left_append [] payloads more few = refl
 left_append (count ∷ counts) payloads more few =
@@ -369,7 +369,7 @@ module _ (n : ℕ) (payload rest : List ℕ) where
         | inr is ↦ rw (is.0) (sym (all ∙ ap (λ (front : List ℕ). front ++ rest) (drop_all (sent + n) payload (omega (arith, is.1)))))
       ]
 
-  -- of the buffer, or of what is lent behind it
+  -- of the buffer, or of what is lent after it
   passed : (buffer : List ℕ) (start : ℕ) (o : Option ℕ) → n ≤ length (first_of (drop start buffer) (lent_rest o payload)) → drop (cond (leb (suc start) (length buffer)) (start + n) start) buffer ++ (lent_rest (cond (leb (suc start) (length buffer)) o (lent_after o n payload)) payload ++ rest) ≡ drop n (drop start buffer ++ (lent_rest o payload ++ rest))
   passed buffer start o few =
       elim (leb_tells (suc start) (length buffer)) [

@@ -47,7 +47,7 @@ parcels_same given more number [] same = refl
 parcels_same given more number (parcels ∷ begun) same =
     ap (λ (n : ℕ). take n parcels ++ parcels_by more (suc number) begun) (same number) ∙ ap (λ (tail : List Parcel). take (greatest number given) parcels ++ tail) (parcels_same given more (suc number) begun same)
 
--- where nothing was given for windows, none of theirs
+-- if nothing was given for windows, none of theirs
 none_behind : (given : List Answer) (number : ℕ) (begun : List (List Parcel)) → ((window : ℕ) → number ≤ window → greatest window given ≡ 0) → parcels_by given number begun ≡ []
 none_behind given number [] none = refl
 none_behind given number (parcels ∷ begun) none =

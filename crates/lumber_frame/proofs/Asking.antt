@@ -40,7 +40,7 @@ greatest_elsewhere window other number given apart =
 
 -- ---- the window that is asked
 
--- it is one of those behind `before` others, or the last of these where there are none
+-- it is one of those after `before` others, or the last of these where there are none
 pub oldest_within : (given : List Answer) (before : ℕ) (windows : List (List (List ℕ))) → (before ≤ oldest_open given before windows) × (oldest_open given before windows ≤ before + length windows)
 oldest_within given before [] = (omega arith, omega arith)
 oldest_within given before (window ∷ windows) =
@@ -87,7 +87,7 @@ oldest_is given before (window ∷ windows) =
       | inr is ↦ rw (is.0) (inr (zero, omega arith, omega (arith, is.1, ap (λ (k : ℕ). greatest k given) here)))
     ]
 
--- where each but the last was acknowledged in full, it is the last
+-- if each but the last was acknowledged in full, it is the last
 pub oldest_last : (given : List Answer) (before : ℕ) (windows : List (List (List ℕ))) → ((i : ℕ) → suc i < length windows → length (get_or windows i []) ≤ greatest (suc (before + i)) given) → oldest_open given before windows ≡ before + length windows
 oldest_last given before [] full = omega arith
 oldest_last given before (window ∷ []) full =
@@ -113,7 +113,7 @@ whole_most [] out = omega arith
 whole_most (window ∷ windows) out =
     then_most (leb (length (window_bytes window)) out) (whole_within windows (out - length (window_bytes window))) (length windows) (whole_most windows (out - length (window_bytes window)))
 
--- so many windows in front are as many
+-- this many windows in front are as many
 pub length_out : (windows : List (List (List ℕ))) (out : ℕ) → length (take (whole_within windows out) windows) ≡ whole_within windows out
 length_out windows out = omega (arith, length-take (whole_within windows out) windows, whole_most windows out)
 
@@ -143,7 +143,7 @@ asked_is windows given out =
           inr (omega (arith, first.2, window, ap (λ (k : ℕ). greatest k given) here, ap (λ (k : ℕ). greatest k given) is, ap (count_at windows) is))
     ]
 
--- where each but the last that was out was acknowledged in full, it is the last
+-- if each but the last that was out was acknowledged in full, it is the last
 pub asked_last : (windows : List (List (List ℕ))) (given : List Answer) (out : ℕ) → ((window : ℕ) → window < whole_within windows out → count_at windows window ≤ greatest window given) → asked windows given out ≡ whole_within windows out
 asked_last windows given out full =
     let whole = whole_within windows out in
@@ -154,7 +154,7 @@ asked_last windows given out full =
 
 -- ---- answers
 
--- they stand behind those that were given
+-- they follow those that were given
 pub answers_behind : (windows : List (List (List ℕ))) (talk : List Piece) (given : List Answer) (place : ℕ) (numbers : List ℕ) → (later : List Answer) × (answers windows talk given place numbers ≡ given ++ later)
 answers_behind windows talk given place [] = ([], sym (append-nil given))
 answers_behind windows talk given place (number ∷ numbers) =
@@ -195,7 +195,7 @@ answers_stop windows talk given place number numbers many =
       | inr is ↦ rw (is.0) refl
     ]
 
--- each acknowledgement has its answer exactly where the first has and the others have
+-- each acknowledgement has its answer exactly if the first has and the others have
 pub faultless_next : (windows : List (List (List ℕ))) (talk : List Piece) (given : List Answer) (place number : ℕ) (numbers : List ℕ) → length (answers windows talk given place (number ∷ numbers)) ≡ length given + suc (length numbers) → (number ≤ count_at windows (asked windows given (out_before talk place)))
     × (length (answers windows talk (given ++ record { window = asked windows given (out_before talk place); number = number } ∷ []) (place + 6) numbers) ≡ length (given ++ record { window = asked windows given (out_before talk place); number = number } ∷ []) + length numbers)
 faultless_next windows talk given place number numbers faultless =
@@ -206,7 +206,7 @@ faultless_next windows talk given place number numbers faultless =
       | inr is ↦ absurd (omega (arith, faultless, ap length (answers_stop windows talk given place number numbers (omega (arith, is.1)))))
     ]
 
--- behind acknowledgements without a fault come the answers of the others
+-- after acknowledgements without a fault come the answers of the others
 pub answers_through : (windows : List (List (List ℕ))) (talk : List Piece) (given : List Answer) (place : ℕ) (numbers more : List ℕ) → length (answers windows talk given place numbers) ≡ length given + length numbers → answers windows talk given place (numbers ++ more) ≡ answers windows talk (answers windows talk given place numbers) (place + 6 * length numbers) more
 answers_through windows talk given place [] more faultless =
     let here : place ≡ place + 6 * 0 = omega arith in
@@ -231,7 +231,7 @@ answers_few windows talk given place (number ∷ numbers) =
       | inr is ↦ rw (is.0) (omega arith)
     ]
 
--- where some acknowledgement has none, there is a first with a number above the count
+-- if some acknowledgement has none, there is a first with a number above the count
 pub first_above : (windows : List (List (List ℕ))) (talk : List Piece) (given : List Answer) (place : ℕ) (numbers : List ℕ) → length (answers windows talk given place numbers) < length given + length numbers
     → (index : ℕ) × (index < length numbers) × (length (answers windows talk given place (take index numbers)) ≡ length given + index) × (count_at windows (asked windows (answers windows talk given place (take index numbers)) (out_before talk (place + 6 * index))) < get_or numbers index 0)
 first_above windows talk given place [] less = absurd (omega arith)

@@ -1,4 +1,4 @@
--- Peers' faults of a talk: where they are met, where there is none, and that they stay.
+-- Peers' faults of a talk: where they occur, when there is none, and that they stay.
 use Rattle.std.proofs.Common.{◌≡◌, ℕ, zero, suc, ◌+◌, ◌*◌, ◌^◌, ◌<◌, ◌≤◌, ◌&&◌, Bool, true, false, cond, eqb, List, [], ◌∷◌, ◌++◌, length, get_or, slice_index, drop, take, lit<, refl, sym, ap, subst, ◌∙◌, append_assoc, arith, inl, inr}
 use Rattle.std.specs.Int.{w32, from_be_bytes}
 use Rattle.std.specs.List.{All, AllByRecursion, flat_map}
@@ -49,7 +49,7 @@ each_small [] small i = omega (arith, get_or_past {X = ℕ} [] i 0)
 each_small (byte ∷ bytes) small zero = small.0
 each_small (byte ∷ bytes) small (suc i) = each_small bytes small.1 i
 
--- six bytes that are an acknowledgement, and the bytes behind them
+-- six bytes that are an acknowledgement, and the bytes after them
 six_begin : (v k : ℕ) (rest : List ℕ) → v ≡ 0x32 → k ≡ 0x41 → AllByRecursion (λ byte. byte < 256) rest → 4 ≤ length rest → BeginsWithFrame (v ∷ k ∷ rest) (Ack (from_be_bytes w32 (take 4 rest))) 6
 six_begin v k rest version kind small long =
     ack_front (v ∷ k ∷ rest) (from_be_bytes w32 (take 4 rest)) (each_small (v ∷ k ∷ rest) (omega (arith, version), (omega (arith, kind), small))) (omega arith) version kind refl
@@ -94,7 +94,7 @@ no_numbers (v ∷ k ∷ a ∷ b ∷ c ∷ d ∷ bytes) none =
       | inr second ↦ second.1 (eqb-true k 0x41 tests.1)
     ])
 
--- what stands behind the acknowledgements
+-- what follows the acknowledgements
 pub behind_is : (bytes : List ℕ) (numbers tail : List ℕ) → bytes ≡ ack_bytes numbers ++ tail → AllByRecursion (λ number. number < 2 ^ 32) numbers → acknowledgements tail ≡ [] → (acknowledgements bytes ≡ numbers) × (drop (6 * length (acknowledgements bytes)) bytes ≡ tail)
 behind_is bytes numbers tail is small none =
     let read : acknowledgements bytes ≡ numbers = ap acknowledgements is ∙ numbers_read numbers tail small ∙ ap (λ (others : List ℕ). numbers ++ others) none ∙ append-nil numbers in (
@@ -170,7 +170,7 @@ met_above talk sent heard windows payloads numbers bytes number settled is out s
 
 -- ---- there is no fault
 
--- where each acknowledgement has an answer, none is above the count
+-- if each acknowledgement has an answer, none is above the count
 pub few_each : (windows : List (List (List ℕ))) (talk : List Piece) (given : List Answer) (place : ℕ) (numbers : List ℕ) (index : ℕ) → length (answers windows talk given place numbers) ≡ length given + length numbers → index < length numbers → get_or numbers index 0 ≤ count_at windows (asked windows (answers windows talk given place (take index numbers)) (out_before talk (place + 6 * index)))
 few_each windows talk given place [] index faultless there = absurd (omega arith)
 few_each windows talk given place (number ∷ numbers) zero faultless there =
@@ -186,7 +186,7 @@ few_each windows talk given place (number ∷ numbers) (suc index) faultless the
     let front = answers windows talk more (place + 6) (take index numbers) in
     omega (arith, few_each windows talk more (place + 6) numbers index first.1 (omega arith), ap (λ (p : ℕ). count_at windows (asked windows front (out_before talk p))) next, ap (λ (all : List Answer). count_at windows (asked windows all (out_before talk (place + 6 * suc index)))) taken)
 
--- where each acknowledgement has an answer, and another may begin behind them
+-- where each acknowledgement has an answer, and another may begin after them
 pub no_fault : (talk : List Piece) (windows : List (List (List ℕ))) (numbers bytes : List ℕ) → AreWindows (out_bytes talk) windows → in_bytes talk ≡ ack_bytes numbers ++ bytes → AllByRecursion (λ number. number < 2 ^ 32) numbers → acknowledgements bytes ≡ [] → length (answers windows talk [] 0 numbers) ≡ length numbers → (BeginsNoAcknowledgement bytes → ⊥) → HasPeerFault talk → ⊥
 no_fault talk windows numbers bytes sent received small cut faultless begins fault =
     let same = are_once (out_bytes talk) fault.windows windows fault.sent sent in
@@ -258,11 +258,11 @@ above_stays talk more windows on index high =
       above = omega (arith, high.above, count, ap (λ (ns : List ℕ). slice_index ns index) read, get_or_append_left numbers behind.0 0 index high.there);
     }
 
--- bytes that begin none stand behind no acknowledgement
+-- bytes that begin none follow no acknowledgement
 at_front : (bytes : List ℕ) → BeginsNoAcknowledgement bytes → BeginsNoAcknowledgement (drop (6 * length (acknowledgements bytes)) bytes)
 at_front bytes none = subst (λ (ns : List ℕ). BeginsNoAcknowledgement (drop (6 * length ns) bytes)) (sym (no_numbers bytes none)) none
 
--- what stands behind the acknowledgements stands there still
+-- what follows the acknowledgements is there still
 behind_stays : (bytes more : List ℕ) → BeginsNoAcknowledgement (drop (6 * length (acknowledgements bytes)) bytes) → BeginsNoAcknowledgement (drop (6 * length (acknowledgements (bytes ++ more))) (bytes ++ more))
 behind_stays [] more none = at_front more (begins_none [] more none)
 behind_stays (v ∷ []) more none = at_front (v ∷ more) (begins_none (v ∷ []) more none)

@@ -12,13 +12,13 @@ use Rattle.lumber_frame.specs.Fault.{IsBadAt}
 abbrev pub IsBytes : List ℕ → Type 0
 IsBytes bytes = (i : ℕ) → get_or bytes i 0 < 256
 
--- two numbers in front of bytes are one, and so is what follows them
+-- two numbers before bytes are one, and so is what follows them
 number_once : (m n : ℕ) (x y : List ℕ) → m < 2 ^ 32 → n < 2 ^ 32 → to_be_bytes w32 m ++ x ≡ to_be_bytes w32 n ++ y → (m ≡ n) × (x ≡ y)
 number_once m n x y small_m small_n same =
     let cells : to_be_bytes w32 m ≡ to_be_bytes w32 n = cc in
     (sym (from_be_bytes-to_be_bytes_4 m small_m) ∙ ap (from_be_bytes w32) cells ∙ from_be_bytes-to_be_bytes_4 n small_n, cc)
 
--- two payloads of one length in front of bytes are one, and so is what follows them
+-- two payloads of one length before bytes are one, and so is what follows them
 payload_once : (p q x y : List ℕ) → length p ≡ length q → p ++ x ≡ q ++ y → (p ≡ q) × (x ≡ y)
 payload_once p q x y lengths same = (
   sym (take_at p x (length p) refl) ∙ ap (take (length p)) same ∙ take_at q y (length p) (sym lengths),

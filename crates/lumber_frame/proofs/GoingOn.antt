@@ -29,7 +29,7 @@ windows_more bytes more windows others first second =
       cut = second.cut;
     }
 
--- the talk that goes on: more windows behind those that it has, and more answers behind those that were given
+-- the talk that goes on: more windows after those that it has, and more answers after those that were given
 pub record GoesOn (talk more : List Piece) (windows : List (List (List ℕ))) : Type 0 where
   pub others : List (List (List ℕ))
   pub later : List Answer
@@ -74,7 +74,7 @@ stays talk more payloads first =
       subst (λ (acknowledged : List (List ℕ)). All (Contains (payloads_by now 1 (windows ++ on.others))) acknowledged) (sym first.are) (payloads_stay given now 1 windows on.others (greater talk more windows on)),
     )
 
--- where the greatest numbers are no less than the counts, the payloads of these windows are the first, whatever windows follow
+-- if the greatest numbers are no less than the counts, the payloads of these windows are the first, whatever windows follow
 all_first : (given : List Answer) (number : ℕ) (windows others : List (List (List ℕ))) → ((i : ℕ) → length (get_or windows i []) ≤ greatest (number + i) given) → (later : List (List ℕ)) × (payloads_by given number (windows ++ others) ≡ flat_map (λ window. window) windows ++ later)
 all_first given number [] others full = (payloads_by given number others, refl)
 all_first given number (window ∷ windows) others full =
@@ -87,7 +87,7 @@ all_first given number (window ∷ windows) others full =
       ap (λ (front : List (List ℕ)). front ++ payloads_by given (suc number) (windows ++ others)) whole ∙ ap (λ (tail : List (List ℕ)). window ++ tail) behind.1 ∙ sym (append_assoc window (flat_map (λ payloads. payloads) windows) behind.0),
     )
 
--- what was settled stays acknowledged, and stands first
+-- what was settled stays acknowledged, and comes first
 pub settled_stays : (talk more : List Piece) (windows : List (List (List ℕ))) → IsSettled talk windows → (later : List (List ℕ)) × Acknowledges (talk ++ more) (flat_map (λ window. window) windows ++ later)
 settled_stays talk more windows settled =
     let on = goes_on talk more windows (windows_are talk windows settled) in

@@ -48,7 +48,7 @@ before (In bytes ∷ talk) place there =
           record { front = In bytes ∷ others.front; more = others.more; is = ap (λ (pieces : List Piece). In bytes ∷ pieces) others.is; few = omega (arith, others.few, is.1, length-append bytes (in_bytes others.front)); out = rw (is.0) others.out }
     ]
 
--- behind a window that is not the last of them more was sent
+-- after a window that is not the last of them more was sent
 more_sent : (talk : List Piece) (windows : List (List (List ℕ))) (sent : AreWindows (out_bytes talk) windows) (window : ℕ) → window < length windows → length (flat_map window_bytes (take window windows)) < length (out_bytes talk)
 more_sent talk windows sent window less =
     omega (arith, length-flat_map-take window_bytes windows window [] less, length-window (get_or windows window []), ap length sent.whole, length-append (flat_map window_bytes windows) sent.rest)
@@ -170,7 +170,7 @@ fault_as_oldest talk one fault = record {
   fault = elim (fault.fault) [ inl high ↦ inl (above_first talk fault.windows fault.sent one high.0 high.1) | inr none ↦ inr none ];
 }
 
--- ---- one more window behind a settled talk
+-- ---- one more window after a settled talk
 
 -- a front of two lists of pieces is a front of the first, or the first and a front of the second
 fronts : (talk rest front more : List Piece) → talk ++ rest ≡ front ++ more → ((left : List Piece) × (talk ≡ front ++ left)) ⊎ ((right : List Piece) × (front ≡ talk ++ right) × (rest ≡ right ++ more))
@@ -184,7 +184,7 @@ fronts (piece ∷ talk) rest (first ∷ front) more same =
       | inr past ↦ inr (past.0, ap (λ (p : Piece). p ∷ front) (sym one) ∙ ap (λ (pieces : List Piece). piece ∷ pieces) past.1, past.2)
     ]
 
--- so many windows take in the window behind the others
+-- this many windows take in the window after the others
 first_in : (windows others : List (List (List ℕ))) (first : List (List ℕ)) (n : ℕ) → length windows < n → length (flat_map window_bytes windows) + length (window_bytes first) ≤ length (flat_map window_bytes (take n (windows ++ first ∷ others)))
 first_in [] others first zero less = absurd (omega arith)
 first_in [] others first (suc n) less = omega (arith, length-append (window_bytes first) (flat_map window_bytes (take n others)))
@@ -192,7 +192,7 @@ first_in (window ∷ windows) others first zero less = absurd (omega arith)
 first_in (window ∷ windows) others first (suc n) less =
     omega (arith, first_in windows others first n (omega arith), length-append (window_bytes window) (flat_map window_bytes windows), length-append (window_bytes window) (flat_map window_bytes (take n (windows ++ first ∷ others))))
 
--- behind the windows of a settled talk no more than the front of one window was sent
+-- after the windows of a settled talk no more than the front of one window was sent
 none_behind : (talk right : List Piece) (windows others : List (List (List ℕ))) (payloads : List (List ℕ)) (tail : List ℕ) (n : ℕ) → IsSettled talk windows → IsWindow payloads → out_bytes right ++ tail ≡ window_bytes payloads → AreWindows (out_bytes (talk ++ right)) (windows ++ others) → n ≤ length (windows ++ others) → length windows < n → length (flat_map window_bytes (take n (windows ++ others))) < length (out_bytes (talk ++ right)) → ⊥
 none_behind talk right windows [] payloads tail n settled is out sent most past less = absurd (omega (arith, length-append windows []))
 none_behind talk right windows (first ∷ others) payloads tail n settled is out sent most past less =

@@ -78,7 +78,7 @@ unfolding for_window
 length-for_window window [] = refl
 length-for_window window (number ∷ numbers) = ap suc (length-for_window window numbers)
 
--- where all windows are out and each but the last was acknowledged in full, acknowledgements are for the last
+-- if all windows are out and each but the last was acknowledged in full, acknowledgements are for the last
 answers_last : (windows : List (List (List ℕ))) (talk : List Piece) (given : List Answer) (place last most : ℕ) (numbers : List ℕ) → ((later : ℕ) → place ≤ later → whole_within windows (out_before talk later) ≡ last) → ((window : ℕ) → window < last → count_at windows window ≤ greatest window given) → count_at windows last ≡ most → AllByRecursion (λ number. number ≤ most) numbers → answers windows talk given place numbers ≡ given ++ for_window last numbers
 unfolding for_window
 answers_last windows talk given place last most [] whole full count few = sym (append-nil given)
@@ -143,7 +143,7 @@ sent_first sent heard payloads is out silent quiet = record {
       omega (arith, ap (out_before (sent ++ heard)) here, before_behind sent heard place, before_most heard place, ap length quiet, ap length out);
 }
 
--- what is received is received behind the window
+-- what is received is received after the window
 pub received_first : (sent heard : List Piece) (bytes : List ℕ) → in_bytes sent ≡ [] → in_bytes heard ≡ bytes → in_bytes (sent ++ heard) ≡ bytes
 received_first sent heard bytes silent received = in_append sent heard ∙ ap (λ (front : List ℕ). front ++ in_bytes heard) silent ∙ received
 
@@ -245,7 +245,7 @@ greatest_below last most (number ∷ numbers) some below =
       | inr is ↦ absurd (is.1 refl)
     ]
 
--- the new window then has not its count, where all numbers are below it
+-- the new window then has not its count, if all numbers are below it
 pub below_then : (talk more : List Piece) (windows : List (List (List ℕ))) (payloads : List (List ℕ)) (numbers : List ℕ) → (settled : IsSettled talk windows) → IsSent more payloads → AllByRecursion (λ number. number < length payloads) numbers → greatest (suc (length windows)) (answers (windows ++ payloads ∷ []) (talk ++ more) [] 0 (settled.numbers ++ numbers)) < length payloads
 below_then talk more windows payloads numbers settled window below =
     let last = suc (length windows) in
@@ -268,7 +268,7 @@ one_more talk more windows payloads numbers settled answered =
       in_full = λ window. ap (greatest window) are ∙ full window;
     }
 
--- one more window is settled by acknowledgements behind it
+-- one more window is settled by acknowledgements after it
 pub window_is : (talk sent heard : List Piece) (windows : List (List (List ℕ))) (payloads : List (List ℕ)) (numbers : List ℕ) → IsSettled talk windows → IsWindow payloads → out_bytes sent ≡ window_bytes payloads → in_bytes sent ≡ [] → out_bytes heard ≡ [] → in_bytes heard ≡ ack_bytes numbers → All (λ number. number ≤ length payloads) numbers → Contains numbers (length payloads) → IsSettled ((talk ++ sent) ++ heard) (windows ++ payloads ∷ [])
 window_is talk sent heard windows payloads numbers settled is out silent quiet received few full =
     let answered : IsAnswered (sent ++ heard) payloads numbers = record {

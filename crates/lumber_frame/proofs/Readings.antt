@@ -46,7 +46,7 @@ whole_from bytes Short reads frame used begins = reads.no_frame frame used begin
 pub read_again : (frame : Frame) (rest : List ℕ) (read : FrameRead) → IsFrame frame → Reads (frame_bytes frame ++ rest) read → IsWholeOf read frame (length (frame_bytes frame))
 read_again frame rest read fits reads = whole_from (frame_bytes frame ++ rest) read reads frame (length (frame_bytes frame)) (written frame rest fits)
 
--- the second byte is a kind, and four bytes behind it a number
+-- the second byte is a kind, and four bytes after it a number
 record IsNumbered (bytes : List ℕ) (kind : ℕ) : Type 0 where
   small : IsBytes bytes
   long : 6 ≤ length bytes

@@ -1,4 +1,4 @@
--- What stays of a talk when it goes on: where bytes stand in it, and what its acknowledgements say.
+-- What stays of a talk when it goes on: where bytes are in it, and what its acknowledgements say.
 use Rattle.std.proofs.Common.{◌≡◌, ℕ, zero, suc, ◌+◌, ◌*◌, ◌-◌, ◌<◌, ◌≤◌, Bool, true, false, cond, eqb, ltb, ◌&&◌, List, [], ◌∷◌, ◌++◌, length, take, drop, refl, sym, ap, ◌∙◌, append_assoc, arith, inl, inr}
 use Rattle.std.specs.List.{All, AllByRecursion, Contains, flat_map}
 use Rattle.std.specs.Int.{w32, from_be_bytes}
@@ -18,7 +18,7 @@ same_else : {A : Type 0} (test : Bool) (first x y : A) → (test ≡ false → x
 same_else true first x y same = refl
 same_else false first x y same = same refl
 
--- ---- where bytes stand
+-- ---- where bytes are
 
 pub out_append : (talk more : List Piece) → out_bytes (talk ++ more) ≡ out_bytes talk ++ out_bytes more
 out_append [] more = refl
@@ -52,7 +52,7 @@ before_most (In bytes ∷ talk) place = else_most (ltb place (length bytes)) (ou
 
 -- ---- windows
 
--- windows behind these bytes are none within them
+-- windows after these bytes are none within them
 pub whole_stays : (windows others : List (List (List ℕ))) (rest : List ℕ) (out : ℕ) → ((n : ℕ) → n ≤ length rest → whole_within others n ≡ 0) → out ≤ length (flat_map window_bytes windows ++ rest) → whole_within (windows ++ others) out ≡ whole_within windows out
 whole_stays [] others rest out none few = none out few
 whole_stays (window ∷ windows) others rest out none few =

@@ -12,7 +12,7 @@ use Rattle.lumber_frame.proofs.GoingOn.{all_both}
 use Rattle.lumber_frame.proofs.OneMoreWindow.{below_then, below_too, received_first, sent_first, small_too}
 use Rattle.lumber_frame.proofs.Faults.{behind_is, few_read, received_then, windows_then}
 
--- where the last window has not its count, fewer payloads are given than there are
+-- if the last window has not its count, fewer payloads are given than there are
 fewer_given : (given : List Answer) (number : ℕ) (windows : List (List (List ℕ))) (payloads : List (List ℕ)) → greatest (number + length windows) given < length payloads →
     length (payloads_by given number (windows ++ payloads ∷ [])) < length (flat_map (λ window. window) (windows ++ payloads ∷ []))
 fewer_given given number [] payloads fewer =
@@ -26,7 +26,7 @@ fewer_given given number (window ∷ windows) payloads fewer =
     let all = windows ++ payloads ∷ [] in
     omega (arith, others, length-append (take most window) (payloads_by given (suc number) all), length-take most window, length-append window (flat_map (λ w. w) all))
 
--- acknowledgements below the count of one more window, behind which another may have begun
+-- acknowledgements below the count of one more window, after which another may have begun
 pub fewer_acknowledged : (talk sent heard : List Piece) (windows : List (List (List ℕ))) (payloads : List (List ℕ)) (numbers bytes : List ℕ) → IsSettled talk windows → IsWindow payloads → out_bytes sent ≡ window_bytes payloads → in_bytes sent ≡ [] → out_bytes heard ≡ [] → in_bytes heard ≡ ack_bytes numbers ++ bytes → All (λ number. number < length payloads) numbers → length bytes < 6 →
     (acknowledged : List (List ℕ)) × Acknowledges ((talk ++ sent) ++ heard) acknowledged × (length acknowledged < length (flat_map (λ window. window) (windows ++ payloads ∷ [])))
 fewer_acknowledged talk sent heard windows payloads numbers bytes settled is out silent quiet received below short =

@@ -1,4 +1,4 @@
--- The bytes of windows: where a window stands in front of bytes, and where none does.
+-- The bytes of windows: where a window is in front, and where none is.
 use Rattle.std.proofs.Common.{◌≡◌, ℕ, suc, ◌+◌, ◌-◌, ◌^◌, ◌<◌, ◌≤◌, List, [], ◌∷◌, ◌++◌, length, refl, sym, ap, subst, ◌∙◌, append_assoc, arith}
 use Rattle.std.specs.List.{AllByRecursion, flat_map}
 use Rattle.std.proofs.lemmas.List.{length-append, append-nil}
@@ -8,7 +8,7 @@ use Rattle.lumber_frame.specs.Frame.{IsFrame, frame_bytes}
 use Rattle.lumber_frame.specs.Window.{numbered, window_bytes, IsNumbered, IsWindow, BeginsWithWindow, AreWindows}
 use Rattle.lumber_frame.proofs.Frames.{one_form}
 
--- one more payload behind others
+-- one more payload after others
 numbered-append : (sequence : ℕ) (payloads : List (List ℕ)) (payload : List ℕ) → numbered sequence (payloads ++ payload ∷ []) ≡ numbered sequence payloads ++ frame_bytes (Json (sequence + length payloads) payload)
 numbered-append sequence [] payload =
     let same : sequence ≡ sequence + 0 = omega arith in
@@ -34,14 +34,14 @@ one_more before bytes rest after payload payloads taken fits is =
       front = taken.front ∙ ap (λ (tail : List ℕ). numbered 1 payloads ++ tail) is ∙ sym (append_assoc (numbered 1 payloads) (frame_bytes (Json (before + 1) payload)) after) ∙ ap (λ (all : List ℕ). all ++ after) (sym appended);
     }
 
--- the next payload, where one is still wanted, stands in front
+-- the next payload, if one is still wanted, is in front
 pub next_of : (sequence count : ℕ) (bytes : List ℕ) (payloads : List (List ℕ)) (rest : List ℕ) → 0 < count → IsNumbered sequence count bytes payloads rest
     → (payload : List ℕ) × (others : List (List ℕ)) × (length payload ≤ MAX_PAYLOAD) × (bytes ≡ frame_bytes (Json sequence payload) ++ (numbered (suc sequence) others ++ rest)) × IsNumbered (suc sequence) (count - 1) (numbered (suc sequence) others ++ rest) others rest
 next_of sequence count bytes [] rest some is = absurd (omega (arith, is.counted))
 next_of sequence count bytes (payload ∷ others) rest some is =
     (payload, others, is.each.0, is.front ∙ append_assoc (frame_bytes (Json sequence payload)) (numbered (suc sequence) others) rest, record { counted = omega (arith, is.counted); each = is.each.1; front = refl })
 
--- where the next payload is not there, so many are not
+-- if the next payload is not there, so many are not
 pub not_ahead : (sequence count : ℕ) (bytes : List ℕ) (payloads : List (List ℕ)) (rest : List ℕ) → 0 < count → sequence < 2 ^ 32 → ((payload after : List ℕ) → IsFrame (Json sequence payload) → bytes ≡ frame_bytes (Json sequence payload) ++ after → ⊥) → IsNumbered sequence count bytes payloads rest → ⊥
 not_ahead sequence count bytes payloads rest some small none is =
     let next = next_of sequence count bytes payloads rest some is in

@@ -23,7 +23,7 @@ same_or_not xs ys = by_test (bytes_eq xs ys) (bytes_eq-Decides xs ys)
 
 -- ---- a JSON frame
 
--- where a JSON frame's payload ends, if one stands in front
+-- where a JSON frame's payload ends, if one is in front
 size_in : List ℕ → ℕ
 size_in bytes = from_be_bytes w32 (take 4 (drop 6 bytes))
 
@@ -33,7 +33,7 @@ payload_in bytes = take (size_in bytes) (drop 10 bytes)
 after_in : List ℕ → List ℕ
 after_in bytes = drop (size_in bytes) (drop 10 bytes)
 
--- a JSON frame stands in front
+-- a JSON frame is in front
 record IsJson (sequence : ℕ) (bytes : List ℕ) : Type 0 where
   few : length (payload_in bytes) ≤ MAX_PAYLOAD
   front : bytes ≡ frame_bytes (Json sequence (payload_in bytes)) ++ after_in bytes
@@ -48,7 +48,7 @@ json_or_not sequence bytes =
       ]
     ]
 
--- what stands in front is found there
+-- what is in front is found there
 size_found : (sequence : ℕ) (payload after : List ℕ) → length payload ≤ MAX_PAYLOAD → size_in (frame_bytes (Json sequence payload) ++ after) ≡ length payload
 unfolding size_in
 size_found sequence payload after few = from_be_bytes-to_be_bytes_4 (length payload) (omega arith)
@@ -61,7 +61,7 @@ json_found sequence payload after few =
       ap (λ (n : ℕ). drop n (payload ++ after)) size ∙ drop_at payload after (length payload) refl,
     )
 
--- bytes in front of which a JSON frame stands
+-- bytes before which a JSON frame is
 json_from : (sequence : ℕ) (bytes payload after : List ℕ) → length payload ≤ MAX_PAYLOAD → bytes ≡ frame_bytes (Json sequence payload) ++ after → IsJson sequence bytes × (after_in bytes ≡ after)
 json_from sequence bytes payload after few is =
     let found = json_found sequence payload after few in
@@ -116,11 +116,11 @@ record First (bytes : List ℕ) : Type 0 where
   more : List ℕ
   is : BeginsWithWindow bytes payloads more
 
--- the count of a window frame, if one stands in front
+-- the count of a window frame, if one is in front
 count_in : List ℕ → ℕ
 count_in bytes = from_be_bytes w32 (take 4 (drop 2 bytes))
 
--- a window frame of at least one stands in front, and its JSON frames behind it
+-- a window frame of at least one is in front, and its JSON frames after it
 record IsFirst (bytes : List ℕ) : Type 0 where
   some : 0 < count_in bytes
   few : count_in bytes < 2 ^ 32

@@ -1,5 +1,5 @@
 -- Two windows are out, one of the payloads A and B and one of C. The acknowledgements 1, 2 and 1 acknowledge A, B and C;
--- a further 1 changes nothing and is no fault, and a further 2 is a peer's fault; so is 3, where it comes first.
+-- a further 1 changes nothing and is no fault, and a further 2 is a peer's fault; so is 3, if it comes first.
 use Rattle.std.proofs.Common.{ℕ, List, [], ◌∷◌, ◌++◌, lit<, refl, arith, inl}
 use Rattle.std.specs.List.{flat_map}
 use Rattle.wire_base.specs.declared.talk.Piece.{Piece}

@@ -54,7 +54,7 @@ behind number first x below = decide (nat_eq number first) refl
     decide true is = absurd (omega (arith, eqb-true number first is))
     decide false is = ap (λ (b : Bool). if b then 1 else 0) is
 
--- in a row that begins behind a number, no entry has it
+-- in a row that begins after a number, no entry has it
 not_before : (number first : ℕ) (xs : List Parcel) → number < first → weigh (has_number number) (numbered first xs) ≡ 0
 not_before number first [] below = refl
 not_before number first (x ∷ xs) below = omega (arith, behind number first x below, not_before number (suc first) xs (omega arith))

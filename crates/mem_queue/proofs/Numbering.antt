@@ -12,7 +12,7 @@ numbered-append first (x ∷ xs) ys =
     let same : suc first + length xs ≡ first + suc (length xs) = omega arith in
     ap (λ (es : List Entry). entry first x ∷ es) (numbered-append (suc first) xs ys ∙ ap (λ (n : ℕ). numbered (suc first) xs ++ numbered n ys) same)
 
--- one more entry behind the row weighs so much more
+-- one more entry after the row weighs so much more
 pub weigh-one-more : (h : Entry → ℕ) (xs : List Parcel) (x : Parcel) → weigh h (numbered 0 (xs ++ x ∷ [])) ≡ weigh h (numbered 0 xs) + h (entry (length xs) x)
 weigh-one-more h xs x =
     let same : 0 + length xs ≡ length xs = omega arith in
@@ -23,7 +23,7 @@ weigh-one-more h xs x =
       ap (λ (n : ℕ). h (entry n x)) same,
     )
 
--- how far an entry lies from a number on; 0 where it lies before
+-- how far an entry lies from a number on; 0 if it lies before
 abbrev pub reach : ℕ → Entry → ℕ
 reach number e = suc e.number - number
 

@@ -31,7 +31,7 @@ drained (Some x) old new Held ranges told = (
   subst (λ (rest : Option (List Parcel)). IsSome rest) (sym told.is) refl,
 )
 
--- what is behind the first of parcels in range is in range
+-- what is after the first of parcels in range is in range
 pub behind_first : (next : Option Parcel) (first : Parcel) (pass : Pass Parcel Hand) → next ≡ Some first → All IsParcel (left_over next pass) → All IsParcel (unwrap_or (view pass).rest [])
 behind_first None first pass ahead ranges k d inside = absurd cc
 behind_first (Some x) first pass ahead ranges k d inside = ranges (suc k) d (omega arith)

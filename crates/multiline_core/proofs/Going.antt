@@ -19,7 +19,7 @@ last_of (x ∷ y ∷ ys) some =
     let behind = last_of (y ∷ ys) (λ e. cc) in
     (x ∷ behind.0, behind.1, ap (λ zs. x ∷ zs) behind.2)
 
--- an event by these lines does not end where these others stand behind it: with `after` the next line goes on or flushes
+-- an event by these lines does not end where these others follow it: with `after` the next line goes on or flushes
 abbrev pub Stays : GroupRule → List Line → Type 0
 Stays (Single message_max_bytes) more = Unit {0}
 Stays (Count count_lines max_lines timeout skip_newline message_max_bytes) more = Unit {0}
@@ -47,7 +47,7 @@ module _ (pattern : List ℕ) (negate : Bool) (flush : Option (List ℕ)) where
   continues_at [] ys x h = h.0
   continues_at (z ∷ xs) ys x h = (goes_on_at xs ys x h.1).0
 
-  -- the line behind the front goes on
+  -- the line after the front goes on
   no_next : (first : Line) (others left more : List Line) (next : Line) (later : List Line) →
       BeginEvent pattern negate After flush (first ∷ (others ++ left)) → left ++ more ≡ next ∷ later →
       (left ≡ [] → (continues pattern negate next ≡ true) ⊎ (flushes flush next ≡ true)) →
@@ -65,7 +65,7 @@ module _ (pattern : List ℕ) (negate : Bool) (flush : Option (List ℕ)) where
   no_flush Before first last between left goes on =
       false≢true (sym (goes_on_at between left last (rw append_assoc at goes.1)).1 ∙ on)
 
--- the first so many of lines with which an event may go on are no event
+-- this many of the first of lines with which an event may go on are no event
 pub no_event : (rule : GroupRule) (front left more : List Line) → MayGoOn rule (front ++ left) → (left ≡ [] → Stays rule more) →
     ¬ (IsEvent rule front (left ++ more))
 no_event (Single message_max_bytes) front left more goes stays event =
@@ -112,7 +112,7 @@ is_flushable rule row goes some later = record {
       (subst (IsEvent rule front) (sym behind) natural.event);
 }
 
--- the line behind them is an event's last
+-- the line after them is an event's last
 pub natural_with : (rule : GroupRule) (row : List Line) (line : Line) → MayGoOn rule row → Stays rule (line ∷ []) →
     IsEvent rule (row ++ line ∷ []) [] → IsNatural rule (row ++ line ∷ []) (row ++ line ∷ [])
 natural_with rule row line goes stays event = record {
@@ -129,7 +129,7 @@ natural_with rule row line goes stays event = record {
       (subst (IsEvent rule front) behind shorter);
 }
 
--- the line behind them begins the next event
+-- the line after them begins the next event
 pub natural_before : (rule : GroupRule) (row : List Line) (line : Line) → MayGoOn rule row →
     IsEvent rule row (line ∷ []) → IsNatural rule (row ++ line ∷ []) row
 natural_before rule row line goes event = record {

@@ -1,7 +1,7 @@
 -- Texts that are joined and cut.
 use Rattle.std.proofs.Common.{◌≡◌, ℕ, zero, suc, ◌-◌, ◌≤◌, List, [], ◌∷◌, ◌++◌, length, take, refl, ap, ◌∙◌, arith, append_assoc}
 
--- as much behind a text as there is room for
+-- as much after a text as there is room for
 pub taken : (n : ℕ) (xs ys : List ℕ) → length xs ≤ n → xs ++ take (n - length xs) ys ≡ take n (xs ++ ys)
 taken n [] ys h = let e : n - 0 ≡ n = omega arith in ap (λ m. take m ys) e
 taken zero (x ∷ xs) ys h = absurd (omega arith)
@@ -23,7 +23,7 @@ length-taken n xs ys h = rw (taken n xs ys h) (short n (xs ++ ys))
     short (suc n) [] = omega arith
     short (suc n) (z ∷ zs) = omega (arith, short n zs)
 
--- a separator and a head behind a text
+-- a separator and a head after a text
 pub joined_behind : (n : ℕ) (xs s head : List ℕ) → length xs ≤ n → (middle : List ℕ) → middle ≡ xs ++ take (n - length xs) s →
     middle ++ take (n - length middle) head ≡ take n (xs ++ (s ++ head))
 joined_behind n xs s head h middle e =

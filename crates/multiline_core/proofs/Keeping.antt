@@ -31,7 +31,7 @@ flat_map-push : (f : List ℕ → List ℕ) (xs : List (List ℕ)) (x : List ℕ
 flat_map-push f [] x = append-nil (f x)
 flat_map-push f (y ∷ xs) x = ap (λ zs. f y ++ zs) (flat_map-push f xs x) ∙ sym (append_assoc (f y) (flat_map f xs) (f x))
 
--- one more text behind at least one
+-- one more text after at least one
 joined-push : (skip : Bool) (first : List ℕ) (others : List (List ℕ)) (text : List ℕ) →
     joined skip (first ∷ (others ++ text ∷ [])) ≡ joined skip (first ∷ others) ++ (separator skip ++ text)
 joined-push skip first others text =

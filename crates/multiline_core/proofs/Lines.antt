@@ -11,7 +11,7 @@ use Rattle.multiline_core.specs.Message.{message_of}
 use Rattle.multiline_core.specs.Partition.{lines_from, IsPartition}
 use Rattle.multiline_core.proofs.Natural.{LinesAdjoin}
 
--- the lines behind one are those of the bytes behind it
+-- the lines after one are those of the bytes after it
 abbrev pub LaterLines : Type 0
 LaterLines = (rule : LineRule) (start : ℕ) (bytes : List ℕ) (given : List Line) (line : Line) (more : List Line) →
     complete_lines rule start bytes ≡ given ++ line ∷ more →

@@ -45,7 +45,7 @@ one_row rule lines row other n m =
     r.1 ∙ ap (λ xs. other ++ xs) (no_shorter rule lines row other r.0 n m r.1 r.2) ∙ append-nil other)
     (fronts row n.behind other m.behind (sym n.lines_are ∙ m.lines_are))
 
--- more lines behind
+-- more lines after
 event_stays : (rule : GroupRule) (row behind more : List Line) → IsEvent rule row behind → IsEvent rule row (behind ++ more)
 event_stays (Single most) row behind more e = e
 event_stays (Count count_lines max_lines timeout skip_newline most) row behind more e = e

@@ -53,7 +53,7 @@ six_lines : group_of two_lines (lines_from by_default (codes "s\n x\n x\n x\n x\
     ≡ record { span = record { start = 0; end = 17 }; message = codes "s\n x"; lines = 6 }
 six_lines = refl
 
--- joined by nothing, and cut behind the joining
+-- joined by nothing, and cut after the joining
 without_newlines : message_of (Count 2 500 5000 true 3) (lines_from by_default (codes "ab\ncd\n") 0) ≡ codes "abc"
 without_newlines = refl
 

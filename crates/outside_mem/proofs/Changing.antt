@@ -49,7 +49,7 @@ module _ (first : List ℕ) (changes : List Change) (change : Change) where
       subst (λ r. Follows (MayLeaveBy change) (IsImageOf (after (fresh first) changes)) (IsImageOf r)) (sym (after-push changes (fresh first) change))
       (follows-change (after (fresh first) changes) change (reads-after changes (fresh first) refl))
 
--- the bytes after a change that was made or refused, where it leaves them as they read
+-- the bytes after a change that was made or refused, if it leaves them as they read
 pub bytes_stay : (first : List ℕ) (changes next : List Change) (change : Change) (made : Bool) → next ≡ cond made (changes ++ change ∷ []) changes
     → (after_change (after (fresh first) changes) change).bytes ≡ (after (fresh first) changes).bytes → (after (fresh first) changes).bytes ≡ (after (fresh first) next).bytes
 bytes_stay first changes next change true is stays =

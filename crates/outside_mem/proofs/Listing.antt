@@ -52,7 +52,7 @@ present_from-append moments (first ∷ files) more number listings =
     ∙ ap (λ (n : ℕ). option_to_list (shown_of moments number listings first) ++ (present_from moments (number + 1) listings files ++ present_from moments n listings more)) same
     ∙ sym (append_assoc (option_to_list (shown_of moments number listings first)) (present_from moments (number + 1) listings files) (present_from moments (number + suc (length files)) listings more))
 
--- a file that is present of the first so many, and is to be listed
+-- a file that is present among this many of the first, and is to be listed
 abbrev IsOnList : List ToldMoment → List Tracked → ℕ → List ℕ → ℕ → ℕ → Shown → Type 0
 IsOnList moments files listings root depth number one = Contains (present_from moments 0 listings (take number files)) one × IsListed root depth one
 
@@ -71,7 +71,7 @@ all_weaker : (P Q : Shown → Type 0) → ((one : Shown) → P one → Q one) �
 all_weaker P Q weaker [] all = tt
 all_weaker P Q weaker (one ∷ shown) all = (weaker one all.0, all_weaker P Q weaker shown all.1)
 
--- a file behind all the others comes once more alone
+-- a file after all the others comes once more alone
 once-push : (shown : List Shown) (number : ℕ) (one : Shown) → AllByRecursion (λ o. o.file < number) shown → EachOnce shown → one.file ≡ number → EachOnce (shown ++ one ∷ [])
 once-push [] number one earlier once is = (tt, tt)
 once-push (first ∷ shown) number one earlier once is = (all_push (λ other. (other.file ≢ first.file) ⊎ (other.entry.path ≢ first.entry.path)) shown one once.0 (inl (λ same. omega (arith, same, is, earlier.0))), once-push shown number one earlier.1 once.1 is)
@@ -104,7 +104,7 @@ module _ (moments : List ToldMoment) (files : List Tracked) (listings number : �
       }
 
   module _ (root : List ℕ) (depth : ℕ) (entries more_entries : List Entry) (shown more_shown : List Shown) (so_far : IsListedUpTo moments files listings root depth number entries shown) where
-    -- a listing that is as before, where nothing more of what is present is to be listed
+    -- a listing that is as before, if nothing more of what is present is to be listed
     as_before : (more : List Shown) → All (λ one. ¬ (IsListed root depth one)) more → present_from moments 0 listings (take (number + 1) files) ≡ present_from moments 0 listings (take number files) ++ more
         → more_entries ≡ entries → more_shown ≡ shown → IsListedUpTo moments files listings root depth (number + 1) more_entries more_shown
     as_before more none present same_entries same_shown =

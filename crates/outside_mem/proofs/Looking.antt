@@ -17,7 +17,7 @@ latest-push : (looks : List Look) (begun : Sight) (look : Look) → latest begun
 latest-push [] begun look = refl
 latest-push (first ∷ looks) begun look = latest-push looks first.sight look
 
--- the window of a front shows the first bytes behind the place, whatever comes behind the front
+-- the window of a front shows the first bytes after the place, whatever comes after the front
 window-front : (n at : ℕ) (bytes rest : List ℕ) → take (length (window n at bytes)) (drop at (bytes ++ rest)) ≡ window n at bytes
 window-front n at bytes rest = by_case (cases_lt (length bytes) at)
   where

@@ -29,7 +29,7 @@ module _ (listings calls : ℕ) (steps : List MemStep) where
       ∙ sym (append_assoc (take i steps) (step ∷ []) (made listings calls (drop (i + 1) steps)))
       ∙ ap (λ (l : List MemStep). l ++ made listings calls (drop (i + 1) steps)) (sym first)
 
-  -- where the next step is not due, these are all
+  -- if the next step is not due, these are all
   pub made_all : (i : ℕ) (step : MemStep) → i < length steps → step ≡ get_or steps i step → is_due listings calls step.due ≡ false → IsMadeUpTo i → made listings calls steps ≡ take i steps
   made_all i step within is late so_far =
       let rest : drop i steps ≡ step ∷ drop (i + 1) steps = drop_more steps i step within ∙ ap (λ (s : MemStep). s ∷ drop (i + 1) steps) (sym is) in
@@ -57,7 +57,7 @@ pub record IsReadUpTo (listings calls at : ℕ) (steps : List MemStep) (i : ℕ)
 pub read_nothing : (listings calls at : ℕ) (steps : List MemStep) (into : List ℕ) → appended steps ≤ MAX_PLACE → IsReadUpTo listings calls at steps 0 (record { life = 0; length = 0 }) into
 read_nothing listings calls at steps into few = record { made_is = refl; sight_is = refl; shows = Shows-nil at into; life = omega arith; room = omega arith }
 
--- one change makes at most one life more, and at most so many bytes as it appends
+-- one change makes at most one life more, and at most this many bytes as it appends
 pub seen_bounds : (s : Standing) (change : MemChange) → ((changed s change).life ≤ s.life + 1) × (length (changed s change).bytes ≤ length s.bytes + appended_by change)
 seen_bounds s (Append blob) = (omega arith, omega (arith, length-append s.bytes blob))
 seen_bounds s (Truncate kept) = (omega arith, omega (arith, length-take kept s.bytes))

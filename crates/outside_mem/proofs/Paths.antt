@@ -20,7 +20,7 @@ on_first_part-append : (byte : ℕ) (xs ys : List (List ℕ)) → 0 < length xs 
 on_first_part-append byte [] ys some = absurd (omega arith)
 on_first_part-append byte (x ∷ xs) ys some = refl
 
--- a slash parts what stands before it from what stands behind it
+-- a slash parts what is before it from what follows it
 parts_of-append : (front names : List ℕ) → parts_of (front ++ 47 ∷ names) ≡ parts_of front ++ parts_of names
 parts_of-append [] names = refl
 parts_of-append (byte ∷ front) names =
@@ -29,7 +29,7 @@ parts_of-append (byte ∷ front) names =
       | false ↦ ap (on_first_part byte) (parts_of-append front names) ∙ on_first_part-append byte (parts_of front) (parts_of names) (parts_of-some front)
     ]
 
--- each part behind a slash
+-- each part after a slash
 abbrev join : List (List ℕ) → List ℕ
 join [] = []
 join (part ∷ parts) = (47 ∷ part) ++ join parts
@@ -51,14 +51,14 @@ join-parts_of (byte ∷ bytes) = by_test (byte == 47) refl (join-parts_of bytes)
     by_test true is rest = let same = eqb-true byte 47 is in cc
     by_test false is rest = join-on_first_part byte (parts_of bytes) bytes rest
 
--- a path that has these parts goes on with them behind its front
+-- a path that has these parts goes on with them after its front
 goes_on : (front path : List ℕ) (below : List (List ℕ)) → parts_of path ≡ parts_of front ++ below → path ≡ front ++ join below
 goes_on front path below spelled =
     let slashed : 47 ∷ path ≡ (47 ∷ front) ++ join below =
     sym (join-parts_of path) ∙ ap join spelled ∙ join-append (parts_of front) below ∙ ap (λ (bytes : List ℕ). bytes ++ join below) (join-parts_of front) in
     cc
 
--- at most `left` parts, none of them empty; but the first may be, where a byte of it stood before
+-- at most `left` parts, none of them empty; but the first may be, if a byte of it was before
 abbrev pub AreNames : Bool → ℕ → List (List ℕ) → Type 0
 AreNames true left parts = (length parts ≤ left) × All (λ part. part ≢ []) parts
 AreNames false left parts = (length parts ≤ left) × All (λ part. part ≢ []) (drop 1 parts)
@@ -110,7 +110,7 @@ module _ (root front path : List ℕ) (depth : ℕ) (same_parts : parts_of front
     named = are.1;
   }
 
-  -- a path below the root has a slash behind the front, and then names
+  -- a path below the root has a slash after the front, and then names
   names_from_IsBelow : IsBelow root depth path → (names : List ℕ) × (path ≡ front ++ 47 ∷ names) × AreNames true depth (parts_of names)
   names_from_IsBelow is_below = by_parts is_below.below is_below.spelled is_below.some is_below.few is_below.named
     where

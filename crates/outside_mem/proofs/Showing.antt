@@ -25,7 +25,7 @@ window-append n at bytes blob =
     ap (λ (l : List ℕ). take n l) (drop-append at bytes blob) ∙ take-append n (drop at bytes) (drop (at - length bytes) blob)
     ∙ ap (λ (k : ℕ). take n (drop at bytes) ++ take (n - k) (drop (at - length bytes) blob)) (length-drop at bytes)
 
--- a buffer that shows the old bytes shows the new ones, too, once these were put behind them
+-- a buffer that shows the old bytes shows the new ones, too, once these were put after them
 pub Shows-append : (at : ℕ) (bytes blob old new part : List ℕ) → length new ≡ length old → part ≡ take (length old - (length bytes - at)) (drop (at - length bytes) blob)
     → take ((length bytes - at) + length part) new ≡ take (length bytes - at) old ++ part → Shows at bytes old → Shows at (bytes ++ blob) new
 Shows-append at bytes blob old new part same_length part_is put shows =

@@ -42,7 +42,7 @@ module _ {A : Type 0} (P : A → Type 0) where
     all_of [] each = all_none
     all_of (u ∷ views) each = all_both (f u) (flat_map f views) (each zero u refl) (all_of views (λ pass. each (suc pass)))
 
--- where one follows from the other, it does so for all
+-- if one follows from the other, it does so for all
 pub all_then : {A : Type 0} (P Q : A → Type 0) (xs : List A) → ((x : A) → P x → Q x) → All P xs → All Q xs
 all_then P Q xs follows all k d inside = follows _ (all k d inside)
 

@@ -33,7 +33,7 @@ no_share scale (piece ∷ pieces) none = absurd (omega (arith, doubled-positive 
 pub begins_whole : IsWhole (0 ∷ [])
 begins_whole = record { least = 0; weighs = λ scale _. let same : scale - 0 ≡ scale = omega arith in omega (arith, ap doubled same) }
 
--- where one view has the whole, the others have no share
+-- if one view has the whole, the others have no share
 pub others_have_none : {V : Type 0} (share : V → List ℕ) (views : List V) (pass other : ℕ) (v u : V) → IsWhole (flat_map share views)
     → get_elem? views pass ≡ some v → IsWhole (share v) → get_elem? views other ≡ some u → other ≢ pass → share u ≡ []
 others_have_none share views pass other v u all at whole there apart =

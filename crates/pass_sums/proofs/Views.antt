@@ -17,7 +17,7 @@ module _ {V A : Type 0} (f : V → List A) (h : A → ℕ) where
   weigh-set (u ∷ views) (suc pass) v w at =
       omega (arith, weigh-append h (f u) (flat_map f (set views pass w)), weigh-append h (f u) (flat_map f views), weigh-set views pass v w at)
 
-  -- one view came behind the others
+  -- one view came after the others
   pub weigh-snoc : (views : List V) (w : V) → weigh h (flat_map f (views ++ w ∷ [])) ≡ weigh h (flat_map f views) + weigh h (f w)
   weigh-snoc [] w = omega (arith, weigh-append h (f w) [])
   weigh-snoc (u ∷ views) w = omega (arith, weigh-append h (f u) (flat_map f (views ++ w ∷ [])), weigh-append h (f u) (flat_map f views), weigh-snoc views w)
@@ -51,7 +51,7 @@ module _ {V A : Type 0} (f : V → List A) (h : A → ℕ) where
       let is : weigh h (f x) ≡ 0 = ap (weigh h) (empty zero x refl) in
       omega (arith, weigh-append h (f x) (flat_map f views), weigh-none views (λ pass. empty (suc pass)))
 
-  -- where all others have empty lists, one view has all
+  -- if all others have empty lists, one view has all
   pub weigh-only : (views : List V) (pass : ℕ) (v : V) → get_elem? views pass ≡ some v
       → ((other : ℕ) (u : V) → get_elem? views other ≡ some u → other ≢ pass → f u ≡ []) → weigh h (flat_map f views) ≡ weigh h (f v)
   weigh-only [] pass v at empty = absurd (some-ne-none v (sym at))
@@ -73,7 +73,7 @@ each_set F (x ∷ views) (suc pass) w here others zero u at = others zero u (λ 
 each_set F (x ∷ views) (suc pass) w here others (suc other) u at =
     each_set (λ k. F (suc k)) views pass w here (λ k y apart. others (suc k) y (λ same. apart (omega arith))) other u at
 
--- what holds of each view still holds of each, one more behind them
+-- what holds of each view still holds of each, one more after them
 pub each_snoc : {V : Type 0} (F : V → Type 0) (views : List V) (w : V) → F w
     → ((pass : ℕ) (u : V) → get_elem? views pass ≡ some u → F u) → (pass : ℕ) (u : V) → get_elem? (views ++ w ∷ []) pass ≡ some u → F u
 each_snoc F [] w here others zero u at = subst F (some-injective w u at) here

@@ -11,7 +11,7 @@ pub weigh-map : {A B : Type 0} (h : B → ℕ) (f : A → B) (xs : List A) → w
 weigh-map h f [] = refl
 weigh-map h f (x ∷ xs) = omega (arith, weigh-map h f xs)
 
--- where all of a list weighs nothing, each item does
+-- if all of a list weighs nothing, each item does
 pub weightless : {A : Type 0} (h : A → ℕ) (xs : List A) → weigh h xs ≡ 0 → All (λ x. h x ≡ 0) xs
 weightless h [] none k d inside = absurd (omega arith)
 weightless h (x ∷ xs) none zero d inside = omega arith

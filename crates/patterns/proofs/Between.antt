@@ -1,4 +1,4 @@
--- A search in bytes, gone on with behind each match that starts inside a character, finds what a search in text does.
+-- A search in bytes, gone on with after each match that starts inside a character, finds what a search in text does.
 use Rattle.std.proofs.Common.{◌≡◌, ℕ, ◌+◌, ◌<◌, ◌≤◌, List, length, Option, Some, None, IsCharBoundary, is_some, option_map, true, false, refl, sym, ap, ◌∙◌, subst, inl, inr, arith}
 use Rattle.std.proofs.lemmas.Bool.{cases_Bool}
 use Rattle.regex_hir.specs.Find.{find, find_str}

@@ -64,7 +64,7 @@ module _ (p : Program) (bytes : List ℕ) (small : All (λ x. x < 256) bytes) wh
       (end_from p.dfa.nfa bytes (length bytes) (entry p.dfa.nfa false) 0) End.NoMatch → is_found (pattern_of p) bytes ≡ false
   dfa_misses h = ap is_some (leftmost_no_end p bytes small 0 (omega arith) h)
 
-  -- where no match is empty, none starts inside a character
+  -- if no match is empty, none starts inside a character
   pub filled : MatchesText (pattern_of p) → 0 < p.min_len → is_found (pattern_of p) bytes ≡ is_found_in_text (pattern_of p) bytes
   filled whole long = ap is_some (find_str_of_filled (pattern_of p) bytes small whole
       (λ i t e. let longer = no_shorter_lem p bytes i t e in omega arith) 0)

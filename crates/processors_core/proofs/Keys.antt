@@ -26,7 +26,7 @@ find-unset key ps = ap (option_map value_in) (find-without key_of key ps)
 pub find-unset_not : (key other : List ℕ) (ps : FieldList) → other ≢ key → find other (unset_field key ps) ≡ find other ps
 find-unset_not key other ps differs = ap (option_map value_in) (find-without_not key_of key other ps differs)
 
--- the later of two values stands
+-- the later of two values is kept
 pub set-set : (key : List ℕ) (old new : TreeValue) (ps : FieldList) → set_field key new (set_field key old ps) ≡ set_field key new ps
 set-set key old new [] = ap (λ o. match_ordering o ((key, new) ∷ (key, old) ∷ []) ((key, new) ∷ []) ((key, old) ∷ (key, new) ∷ [])) (compare_same key key refl)
 set-set key old new (p ∷ ps) = by_case (compare key p.0) refl (set-set key old new ps)

@@ -69,7 +69,7 @@ module _ (pairs : FieldList) (target : List ℕ) (tree : TreeValue) (named : IsN
   taken : takes_fields (parts_of target) tree ≡ true → with_fields (parts_of target) pairs tree ≡ settled tree (fields_added pairs target tree)
   taken is = sym (by_parts ∙ ap (λ b. settled tree (if b then Done (with_fields (parts_of target) pairs tree) else Failed (codes "add_fields: no map at " ++ target))) is)
 
-  -- a part of the target stands in something that is no map
+  -- a part of the target is in something that is no map
   pub on_no_map_before : true ≡ is_some (blocked_at (parts_of target) tree) → with_error (codes "add_fields: no map at " ++ target) tree ≡ settled tree (fields_added pairs target tree)
   on_no_map_before blocked = refused (by_case (blocked_at (parts_of target) tree) blocked)
     where

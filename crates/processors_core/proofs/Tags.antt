@@ -39,7 +39,7 @@ module _ (tags : List (List ℕ)) (target : List ℕ) (tree : TreeValue) where
       by_case true = ap (λ o. settled tree (put_if (codes "add_tags: no list at " ++ target) (parts_of target) o tree)) (without_list tags (get_at (parts_of target) tree) none)
       by_case false = refl
 
-  -- a part of the target stands in something that is no map
+  -- a part of the target is in something that is no map
   pub on_no_map : (part : ℕ) → blocked_at (parts_of target) tree ≡ Some part → with_error (codes "add_tags: no list at " ++ target) tree ≡ settled tree (tags_added tags target tree)
   on_no_map part blocked =
       sym (ap (λ o. settled tree (if is_none o then put_if (codes "add_tags: no list at " ++ target) (parts_of target) (with_tags tags (get_at (parts_of target) tree)) tree else Failed (codes "add_tags: no list at " ++ target))) blocked)

@@ -1,4 +1,4 @@
--- What stands at a path after an edit of a tree.
+-- What is at a path after an edit of a tree.
 use Rattle.std.proofs.Common.{◌≡◌, ◌≢◌, ℕ, suc, ◌+◌, ◌<◌, Bool, true, false, not, ◌&&◌, List, [], ◌∷◌, ◌++◌, length, get_or, drop, Option, Some, None, option_map, is_some, bytes_eq, inl, inr, refl, sym, ap, subst, ◌∙◌}
 use Rattle.std.specs.Option.{option_map_or}
 use Rattle.std.specs.Prelude.{option_and_then, unwrap_or}
@@ -20,7 +20,7 @@ pub pairs_back : (ps : FieldList) → pairs_in (as_members ps) ≡ ps
 pairs_back [] = refl
 pairs_back (p ∷ ps) = ap (λ (t : FieldList). p ∷ t) (pairs_back ps)
 
--- the fields of what stands there, none where nothing does
+-- the fields of what is there, none if nothing is
 abbrev pub fields_or_none : Option TreeValue → FieldList
 fields_or_none None = []
 fields_or_none (Some v) = unwrap_or (fields_in v) []
@@ -32,7 +32,7 @@ get_put [] new v = refl
 get_put (part ∷ parts) new v =
     ap (λ q. option_and_then (get_at parts) (find part q)) (pairs_back _) ∙ ap (option_and_then (get_at parts)) (find-set part _ (unwrap_or (fields_in v) [])) ∙ get_put parts new _
 
--- what is put later stands
+-- what is put later is kept
 pub put_put : (path : Parts) (old new v : TreeValue) → put_at path new (put_at path old v) ≡ put_at path new v
 put_put [] old new v = refl
 put_put (part ∷ parts) old new v =
@@ -47,7 +47,7 @@ put_put (part ∷ parts) old new v =
     below : TreeValue
     below = unwrap_or (member_at part v) (map_of [])
 
--- one more part: the fields of what stands there, with the key
+-- one more part: the fields of what is there, with the key
 pub put_last : (path : Parts) (key : List ℕ) (new v : TreeValue) → put_at (path ++ key ∷ []) new v ≡ put_at path (map_of (set_field key new (fields_or_none (get_at path v)))) v
 put_last [] key new v = refl
 put_last (part ∷ parts) key new v =
@@ -62,7 +62,7 @@ put_last (part ∷ parts) key new v =
     by_case None = ap (λ fs. put_at parts (map_of (set_field key new fs)) (map_of [])) (none_in parts)
     by_case (Some w) = refl
 
--- what stands at one more part
+-- what is at one more part
 pub get_last : (path : Parts) (key : List ℕ) (v : TreeValue) → get_at (path ++ key ∷ []) v ≡ find key (fields_or_none (get_at path v))
 get_last [] key v = by_case (fields_in v)
   where
@@ -114,7 +114,7 @@ and_true : (b : Bool) → b ≡ (b && true)
 and_true true = refl
 and_true false = refl
 
--- after a removal something stands where it did, but below the path
+-- after a removal something is where it was, but below the path
 pub kept_unless_below : (part : List ℕ) (path other : Parts) (v : TreeValue) →
     is_some (get_at other (remove_at (part ∷ path) v)) ≡ (is_some (get_at other v) && not (is_front (part ∷ path) other))
 kept_unless_below part path [] v = refl

@@ -153,7 +153,7 @@ moved : after_one (Rename (pair (codes "a") (codes "m.k") ∷ pair (codes "m.k")
 unfolding after_one
 moved = refl
 
--- what stands at the second path is not overwritten
+-- what is at the second path is not overwritten
 rename_overwrites_nothing : after_one (Rename (pair (codes "a") (codes "b") ∷ []) false true None) (map_of ((codes "a", null) ∷ (codes "b", flag true) ∷ []))
     ≡ Some (map_of ((codes "a", null) ∷ (codes "b", flag true) ∷ error_of (codes "rename: field b exists") ∷ []))
 unfolding after_one

@@ -71,7 +71,7 @@ has_out showing numbers has =
     by_place one (inl same) is = inl (ap (λ (e : Entry). e.native) same ∙ is)
     by_place one (inr later) is = inr (any_in (λ (e : Entry). e.native ≡ numbers) showing.others.items one later is)
 
--- where the first has others, these decide
+-- if the first has others, these decide
 pub has_by_others : (showing : Showing) (numbers : Option (ℕ × ℕ)) (found : Bool) → (showing.first.native ≡ numbers → ⊥) → IsTrue found ↔ HasNumbers showing.others.items numbers → IsTrue found ↔ HasNumbers (entries_of showing) numbers
 has_by_others showing numbers found differs others = (
   λ is. has_in showing numbers (inr (others.0 is)),
@@ -108,7 +108,7 @@ adds_more shown more old between new first second = record {
     right : (path : List ℕ) (entry : Entry) → IsOne more path entry → IsOne (shown ++ more) path entry
     right path entry one = record { among = Contains-append_right shown more entry one.among; path_is = one.path_is }
 
--- what stands at a path, by what stands at the entry's
+-- what is at a path, by what is at the entry's
 adds_at : (entry : Entry) (old new : ByPath) → AddsEntry entry (entries_at old entry.path) (entries_at new entry.path) →
     ((path : List ℕ) → (entry.path ≡ path) ⊎ (entries_at new path ≡ entries_at old path)) → Adds (entry ∷ []) old new
 adds_at entry old new adds others = record {

@@ -115,7 +115,7 @@ module _ (rule : InputRule) (one : Listed) (told : FolderHistory) (shown : Shown
     after_is = after_is;
   }
 
-  -- what the tail of the opening told, and its closing
+  -- what the tail of the opening reported, and its closing
   tells_answer : (looks : List Look) (faults : ℕ) (after : Option FolderHistory) → AreLooks file (sight_of shown) looks → after ≡ Some (after_both looks faults) →
       (key : Result Identity IdentityError) → IsGiven rule.id rule.file_identity one.path file looks key → OnOk key (faults ≡ 0) → (key ≡ Err ReadFault → 0 < faults) →
       (answer : Result Asked FolderError) → IsAnswered key answer → TellsAnswer rule one told answer after
@@ -132,7 +132,7 @@ module _ (rule : InputRule) (one : Listed) (told : FolderHistory) (shown : Shown
   tells_answer looks faults after are after_is (Err OutOfMemory) gave none failing answer is =
       subst (λ (a : Result Asked FolderError). TellsAnswer rule one told a after) (sym is) (leaves_off looks faults after gave after_is)
 
--- an opened tail has met no fault, and one that answered has met none since
+-- an opened tail has hit no fault, and one that answered has hit none since
 pub faultless : {T : Type 0} (tail_faults : T → ℕ) (opened : Result (Option T) FolderError) (found : Option T) (tail : T) → opened ≡ Ok found → found ≡ Some tail → StartsFresh tail_faults opened →
     (told : Option TailHistory) (key : Result Identity IdentityError) (faults : ℕ) → (IsSome told → OnOk key (faults ≡ tail_faults tail)) → IsSome told → OnOk key (faults ≡ 0)
 faultless {T} tail_faults opened found tail opened_is found_is fresh told key faults kept some =
@@ -249,7 +249,7 @@ not_put_next inputs one rule rule_is (Some history) after answer asked is tells 
       after_is = answers.after_is ∙ ap (λ (h : FolderHistory). Some h) (no_more answers.last);
     }
 
--- ---- one behind the other
+-- ---- one after another
 
 abbrev listed_in : AskedFile → Listed
 listed_in asked = asked.listed
@@ -311,7 +311,7 @@ pub at_others : (inputs : List InputRule) (one : Listed) (others : List Listed) 
 at_others inputs one others None after some = tt
 at_others inputs one others (Some history) after some = some others
 
--- ---- which files are left, whether or not the folder tells anything
+-- ---- which files are left, whether or not the folder reports anything
 
 pub kept_next : (inputs : List InputRule) (one : Listed) (rule : InputRule) → slice_get inputs one.input ≡ Some rule → (asked : Asked) → IsAnswerFor rule one asked → (old new : Keyed) → PutsAs one asked old new →
     KeepsNext inputs one old.files.items new.files.items
@@ -409,7 +409,7 @@ keeps_keyed inputs listed files keeps keyed = keeps_where inputs (IsKeyed inputs
     step : (one kept : Listed) → IsKeptOf inputs one kept → IsKeyed inputs one → IsSome kept.key
     step one kept of is = by_rule of.rule one kept of.kept_so (is of.rule of.rule_is)
 
--- a key of a fingerprint is a text of 64 digits behind the id
+-- a key of a fingerprint is a text of 64 digits after the id
 short_fingerprint : (id bytes : List ℕ) → length id ≤ 64 → IsKey (fingerprint_key id bytes)
 unfolding fingerprint_key
 short_fingerprint id bytes short = simp length-append (omega (arith, short, length-encode_with lower_digits (sha256 bytes), length-sha256 bytes))

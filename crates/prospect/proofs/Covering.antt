@@ -65,7 +65,7 @@ stop_later pairs others behind more covered stop = record {
   covered_before = covered_append pairs stop.before more stop.more covered stop.covered_before;
 }
 
--- no key is told for the pair
+-- no key is reported for the pair
 pub keyless_here : (pair : Pair) (error : ScanError) → CoversEntry pair → IsKeyless pair error → StopsAt (pair ∷ []) error
 keyless_here pair Failed covers keyless = keyless
 keyless_here pair NoMemory covers keyless = tt

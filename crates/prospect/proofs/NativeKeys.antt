@@ -1,4 +1,4 @@
--- Keys of native numbers are told apart: of one input they are the same only where the numbers are.
+-- Keys of native numbers are distinguished: of one input they are the same only if the numbers are.
 use Rattle.std.proofs.Common.{◌≡◌, ◌≢◌, ℕ, ◌<◌, List, [], ◌∷◌, ◌++◌, codes, decimal, Option, Some, None, refl, sym, ap, ◌∙◌, append_assoc, arith}
 use Rattle.std.specs.Prelude.{◌^◌, option_map}
 use Rattle.std.specs.List.{AllByRecursion}
@@ -12,7 +12,7 @@ use Rattle.prospect.specs.Covered.{AreNumbers}
 abbrev HasNoDash : List ℕ → Type 0
 HasNoDash text = AllByRecursion (λ byte. byte ≢ 45) text
 
--- what stands before the first dash, and what stands behind it
+-- what is before the first dash, and what follows it
 same_parts : (first second behind after : List ℕ) → HasNoDash first → HasNoDash second → first ++ 45 ∷ behind ≡ second ++ 45 ∷ after → (first ≡ second) × (behind ≡ after)
 same_parts [] [] behind after none none_there is =
     let q : 45 ∷ behind ≡ 45 ∷ after = is in
@@ -40,7 +40,7 @@ no_dash n fits = of_digits (decimal n) (decimal_is_IsNumeral n fits).0.1
     of_digits [] all = tt
     of_digits (digit ∷ digits) all = (λ is. absurd (omega (arith, is, digit_from_value digit all.0)), of_digits digits all.1)
 
--- what stands in a key of an input before its value
+-- what is in a key of an input before its value
 key_cancels : (id kind one other : List ℕ) → key_by id kind one ≡ key_by id kind other → one ≡ other
 key_cancels id kind one other is = append_cancel_left (codes "filestream::" ++ id ++ codes "::" ++ kind ++ codes "::") one other is
 

@@ -1,4 +1,4 @@
--- What a scan tells that goes on past what fails: where nothing failed it is a whole one, and else it is none.
+-- What a scan reports that goes on past what fails: where nothing failed it is a whole one, and else it is none.
 use Rattle.std.proofs.Common.{◌≡◌, ◌≢◌, inl, inr, ℕ, ◌≤◌, List, [], ◌∷◌, ◌++◌, length, map, Option, Some, None, IfSome, refl, sym, ◌∙◌, ap, subst, arith}
 use Rattle.std.specs.Prelude.{flat_map}
 use Rattle.std.specs.BTreeMap.{IsOrdered}
@@ -94,7 +94,7 @@ never_whole globs told failed faults after tries some listings are =
 
 -- ---- what the listings came to
 
--- what was added, whatever the folder tells
+-- what was added, whatever the folder reports
 abbrev pub lists_of : (globs : List (List ℕ)) (told after : Option FolderHistory) (old new : Tried) (faults : ℕ) → TriesMore globs told old new faults after → Lists globs None old.entries new.entries None
 lists_of globs told after old new faults tries = record { entries = tries.entries; in_range = tries.in_range; added = tries.added; shown = tt }
 

@@ -1,4 +1,4 @@
--- What a scan tells of what it has found.
+-- What a scan reports of what it has found.
 use Rattle.std.proofs.Common.{◌≡◌, ◌≢◌, ◌⊎◌, inl, inr, ⊎_elim, ℕ, zero, suc, ◌+◌, ◌<◌, ◌≤◌, false, true, List, [], ◌∷◌, ◌++◌, length, map, All, Any, Contains, Option, Some, None, IfSome, slice_get, refl, sym, ◌∙◌, ap, subst, arith, length-append}
 use Rattle.std.specs.Prelude.{◌^◌, flat_map, option_map}
 use Rattle.std.specs.BTreeMap.{get, is_at, IsOrdered}
@@ -101,7 +101,7 @@ record DifferAtPlace (one other : Pair) : Type 0 where
   by_numbers : one.reading.identity ≡ Native
   differ : one.entry.native ≢ other.entry.native
 
--- of this place or behind it, and told apart
+-- of this place or after it, and distinguished
 abbrev IsBehind : Pair → Pair → Type 0
 IsBehind one other = (place_order (pair_place one) (pair_place other) ≡ Less) ⊎ DifferAtPlace one other
 
@@ -124,7 +124,7 @@ never_before : (one other : Pair) → IsBehind one other → place_order (pair_p
 never_before one other (inl less) back = never_both (pair_place one) (pair_place other) less back
 never_before one other (inr differ) back = never_itself (pair_place other) (pair_place one) (sym differ.place_is) back
 
--- a file that stands behind one
+-- a file that follows one
 record IsFileBehind (one other : Listed) : Type 0 where
   order : place_order (place_of other) (place_of one) ≢ Less
   apart : name_of other ≢ name_of one
@@ -175,7 +175,7 @@ sorted_append [] others first second across = second
 sorted_append (pair ∷ pairs) others first second across =
     (all_append (IsBehind pair) pairs others first.0 across.0, sorted_append pairs others first.1 second across.1)
 
--- a pair that comes before this one stands before it
+-- a pair that comes before this one is before it
 in_before : (before : List Pair) (pair : Pair) (behind : List Pair) (other : Pair) → AreSorted (before ++ pair ∷ behind) → IsIn (before ++ pair ∷ behind) other →
     place_order (pair_place other) (pair_place pair) ≡ Less → IsIn before other
 in_before [] pair behind other sorted (inl same) less = absurd (never_itself (pair_place other) (pair_place pair) (ap pair_place (sym same)) less)
@@ -374,7 +374,7 @@ record IsPairOf (pairs : List Pair) (name : Name) : Type 0 where
 file_named : (files : List Listed) (name : Name) (pair : Pair) → IsIn files (file_of pair) → name_of (file_of pair) ≡ name → HasFile files name
 file_named files name pair among is = any_in (λ (one : Listed). name_of one ≡ name) files (file_of pair) among is
 
--- the entries of a path that an input tells apart have the key of each
+-- the entries of a path that an input distinguishes have the key of each
 keyed_as : (rule : IdentityRule) (id path : List ℕ) (showing : Showing) (numbers : Option (ℕ × ℕ)) → AllByRecursion (HasPath path) (entries_of showing) → HasNumbers (entries_of showing) numbers →
     (entry : Entry) × IsIn (entries_for rule showing) entry × (entry.path ≡ path) × (listed_key id rule entry ≡ named_key id rule path numbers)
 keyed_as (Fingerprint offset count) id path showing numbers paths has = (showing.first, inl refl, paths.0, refl)
@@ -509,7 +509,7 @@ module _ (inputs : List InputRule) (reads : List ScanInput) (told after : Option
       let untold : IsUntold pairs path = untold_in_pairs path stops in
       subst (λ (p : List ℕ). IsPath p) untold.path_is (path_listable untold.stop.pair (stop_known untold.stop))
 
-  -- ---- where the folder tells
+  -- ---- where the folder reports
 
   module _ (listings : List Listing) (entries_are : lists.entries ≡ map (λ one. one.entry) (shown_in listings)) where
     -- what was shown of a pair

@@ -22,9 +22,9 @@ use Rattle.prospect.specs.Scan.{Listing, with_events}
 use Rattle.prospect.specs.Trying.{FailMoreOnlyByFaults, ServeEntries, TriesMore}
 use Rattle.prospect.proofs.Adding.{adds_more, adds_nothing}
 
--- ---- attempts, one behind the other
+-- ---- attempts, one after another
 
--- a count that stands at its end stays there
+-- a count that is at its end stays there
 stand_on : (faults later : ℕ) → faults ≤ later → (attempts : List Attempt) (events : List Event) → StandSo faults attempts events → StandSo later attempts events
 stand_on faults later rise [] events stand = stand
 stand_on faults later rise (Served listing ∷ attempts) events stand = (stand.0, stand.1, stand_on faults later rise attempts stand.0 stand.2)
@@ -292,7 +292,7 @@ ends_at_input inputs i input told between after old new faults later rise within
 pub by_globs : (globs others : List (List ℕ)) (told after : Option FolderHistory) (faults : ℕ) → globs ≡ others → IfSome told (λ history. TriesSome globs history faults after) → IfSome told (λ history. TriesSome others history faults after)
 by_globs globs others told after faults same some = subst (λ (l : List (List ℕ)). IfSome told (λ history. TriesSome l history faults after)) same some
 
--- ---- where the folder tells nothing
+-- ---- where the folder reports nothing
 
 pub untold_by_listing : (told : Option FolderHistory) (states : List Sight) (present : List Shown) (root : List ℕ) (depth : ℕ) (result : Result (Vec Entry Global) FolderError) (after : Option FolderHistory) (faults : ℕ) →
     TellsListing told states present root depth result after faults → told ≡ None → after ≡ None

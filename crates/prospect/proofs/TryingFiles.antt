@@ -23,7 +23,7 @@ use Rattle.prospect.specs.Trying.{TriesNext}
 no_more : (told : FolderHistory) → told ≡ with_events told []
 no_more told = ap (λ (l : List Event). record told { events = l }) (sym (append-nil told.events))
 
--- whatever the others are, where asking it was cut off, or what it came to could not be put
+-- whatever the others are, if asking it was cut off, or what it came to could not be put
 abbrev EndsAt : List InputRule → FolderHistory → Listed → Option FolderHistory → Type 0
 EndsAt inputs told one after = (others : List Listed) → TriesSomeFiles inputs told (one ∷ others) after
 
@@ -65,7 +65,7 @@ module _ (inputs : List InputRule) (one : Listed) (rule : InputRule) (rule_is : 
   not_tried None after asked is tells = tt
   not_tried (Some told) after asked is tells = cut_off told after (subst (λ (r : Result Asked FolderError). TellsAnswer rule one told r after) is tells)
 
-  -- or behind one that failed
+  -- or after one that failed
   pub not_kept : (told after : Option FolderHistory) (asked : Result Asked FolderError) → asked ≡ Err Failed → IfSome told (λ history. TellsAnswer rule one history asked after) →
       IfSome told (λ history. EndsAt inputs history one after)
   not_kept None after asked is tells = tt
@@ -73,7 +73,7 @@ module _ (inputs : List InputRule) (one : Listed) (rule : InputRule) (rule_is : 
       let fails : Fails rule one told after = subst (λ (r : Result Asked FolderError). TellsAnswer rule one told r after) is tells in
       then_ends told (with_events told fails.last) after (Faulted one) refl (faults_one told after fails) fails.after_is
 
-  -- or behind one that answered
+  -- or after one that answered
   pub not_put : (told after : Option FolderHistory) (result : Result Asked FolderError) (asked : Asked) → result ≡ Ok asked → IfSome told (λ history. TellsAnswer rule one history result after) →
       IfSome told (λ history. EndsAt inputs history one after)
   not_put None after result asked is tells = tt
@@ -128,13 +128,13 @@ module _ (inputs : List InputRule) (one : Listed) (rule : InputRule) (rule_is : 
     added = ap (λ (k : Keyed). k.files.items) same ∙ sym (append-nil old.files.items);
   }
 
--- ---- one behind the other
+-- ---- one after another
 
 then_tries : (inputs : List InputRule) (trials more : List Trial) (before mid after : FolderHistory) → TriesFrom inputs trials before mid → TriesFrom inputs more mid after → TriesFrom inputs (trials ++ more) before after
 then_tries inputs [] more before mid after first then = subst (λ (h : FolderHistory). TriesFrom inputs more h after) first then
 then_tries inputs (one ∷ trials) more before mid after first then = (first.0, first.1, then_tries inputs trials more first.0 mid after first.2 then)
 
--- put behind what is put so far
+-- put after what is put so far
 put_behind : (f : AskedFile → List Listed) (trials : List Trial) (trial : Trial) (old new : List Listed) → old ≡ flat_map f (answered_in trials) → new ≡ old ++ flat_map f (answered_by trial) →
     new ≡ flat_map f (answered_in (trials ++ trial ∷ []))
 put_behind f trials trial old new before added =

@@ -1,4 +1,4 @@
--- What was listed where a scan ends before it tells its files.
+-- What was listed where a scan ends before it reports its files.
 use Rattle.std.proofs.Common.{◌≡◌, inl, inr, ℕ, ◌+◌, ◌<◌, List, [], ◌∷◌, ◌++◌, length, map, take, drop, get_or, Option, Some, None, Result, Ok, Err, IfSome, OnErr, OnOk, refl, sym, ◌∙◌, ap, subst, append-nil, append_assoc}
 use Rattle.std.proofs.lemmas.List.{take_more, take-append-drop}
 use Rattle.std.proofs.lemmas.List.Concat.{flat_map-append}
@@ -29,7 +29,7 @@ glob_in listing = listing.glob
 abbrev globs_in : ScanInput → List (List ℕ)
 globs_in input = input.globs.items
 
--- behind listings, each of its glob
+-- after listings, each of its glob
 behind_listings : (listings : List Listing) (globs : List (List ℕ)) (more : List Event) → ListSome globs more →
     ListSome (map glob_in listings ++ globs) (map event_of listings ++ more)
 behind_listings [] globs more some = some

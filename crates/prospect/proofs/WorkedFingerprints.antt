@@ -1,5 +1,5 @@
 -- Worked asking of three files for fingerprints of three bytes: one gives its key, one is too small, and one is gone. Where an
--- opening fails behind the first, the others are not asked.
+-- opening fails after the first, the others are not asked.
 use Rattle.std.proofs.Common.{◌≡◌, inl, inr, ℕ, true, List, [], ◌∷◌, Some, None, codes, drop, refl, sym, ap, ◌∙◌, subst, lit<, lit≤, arith}
 use Rattle.event_tree.specs.declared.group_rule.GroupRule.TheVariants.{Single}
 use Rattle.event_tree.specs.declared.input_rule.IdentityRule.TheVariants.{Fingerprint}
@@ -194,14 +194,14 @@ never_by_its_name before after asks =
     let same : input ≡ asks.rule = cc in
     asks.answered.0 (subst (λ (r : InputRule). IsFingerprint r.file_identity) same tt)
 
--- a file that was opened is not told as gone
+-- a file that was opened is not reported as gone
 never_gone_where_opened : (after : FolderHistory) → AsksOne inputs (record { listed = small; answer = NotFound 2 }) behind_whole after → after ≡ behind_small → ⊥
 never_gone_where_opened after asks is =
     let kept : after ≡ with_events behind_whole (NotThere small.path ∷ []) = asks.answered.kept in
     let events : NotThere small.path ∷ [] ≡ small_done = ap (λ (h : FolderHistory). drop 2 h.events) (sym kept ∙ is) in
     cc
 
--- nothing is cut off behind the last file
+-- nothing is cut off after the last file
 never_behind_the_last : (path : List ℕ) → IsCutOff inputs [] behind_gone (OpeningFailed path ∷ []) → ⊥
 never_behind_the_last path (inl none) = let is : OpeningFailed path ∷ [] ≡ [] = none in cc
 never_behind_the_last path (inr cut) = let is : [] ≡ cut.one ∷ cut.behind = cut.others_are in cc

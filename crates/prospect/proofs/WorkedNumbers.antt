@@ -1,5 +1,5 @@
 -- Worked scans of an input that knows its files by native numbers. A file took another's path between two listings: both are
--- told, in the order of the listings. Where a listing told no numbers, the scan is refused with the path.
+-- reported, in the order of the listings. Where a listing reported no numbers, the scan is refused with the path.
 use Rattle.std.proofs.Common.{◌≡◌, ◌≢◌, inl, inr, ℕ, zero, suc, true, List, [], ◌∷◌, Any, Option, Some, None, slice_get, codes, refl, sym, ap, ◌∙◌, subst, arith, map}
 use Rattle.std.specs.Char.{encode_utf8}
 use Rattle.std.specs.Str.{chars, is_utf8}

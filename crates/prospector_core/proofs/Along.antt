@@ -1,4 +1,4 @@
--- Lists that elements make together with those before them: one list behind another.
+-- Lists that elements make together with those before them: one list after another.
 use Rattle.std.proofs.Common.{◌≡◌, List, [], ◌∷◌, ◌++◌, sym, ap, ◌∙◌, append_assoc}
 use Rattle.std.proofs.lemmas.List.{append-nil}
 use Rattle.prospector_core.specs.Earlier.{flat_map_with_earlier}

@@ -1,4 +1,4 @@
--- What a prospector knows and keeps after a scan, after one was refused, where a file is forgotten, and at the beginning.
+-- What a prospector knows and keeps after a scan, after one was refused, when a file is forgotten, and at the beginning.
 use Rattle.std.proofs.Common.{◌≡◌, ℕ, ◌+◌, ◌-◌, ◌≤◌, Bool, true, false, cond, not, List, [], ◌∷◌, ◌++◌, length, map, take, drop, eqb, filter, refl, sym, ap, ◌∙◌, subst, arith}
 use Rattle.std.proofs.lemmas.List.{append-nil, length-map, nil_from_length, take_all}
 use Rattle.prospector_core.proofs.Looping.{index_kept}
@@ -45,7 +45,7 @@ module _ (scan : Scan) (before files settled : List Watched) (next others count 
       (known_later scan.clean.now scan.whole (all_by before next others) scan.seen.now are
       (subst (λ (k : KnownFiles). length k.files + k.others + length (new_members k.files scan.seen.now) ≤ MAX_FILES) (known_view before next count others is) added.few))
 
-  -- where no file began, the keys stand where they stood
+  -- if no file began, the keys are where they were
   pub index_stays : (order : List ℕ) → told.next ≡ next → IsIndex (keys_of before) order → IsIndex (keys_of settled) order
   index_stays order same index = subst (λ (keys : List (List ℕ)). IsIndex keys order) keys index
     where

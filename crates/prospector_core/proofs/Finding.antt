@@ -1,4 +1,4 @@
--- The first of a list with a key, where the list grows, and where the keys differ.
+-- The first of a list with a key, as the list grows, and where the keys differ.
 use Rattle.std.proofs.Common.{◌≡◌, ◌≢◌, ℕ, zero, suc, ◌<◌, Bool, true, false, List, [], ◌∷◌, ◌++◌, length, get_or, All, AllPairs, Option, Some, None, refl, sym, ap, ◌∙◌, subst, if◌then◌else◌, arith}
 use Rattle.std.specs.List.{AllByRecursion}
 use Rattle.std.specs.Ordering.{is_eq}
@@ -67,7 +67,7 @@ module _ {A : Type 0} (key_of : A → List ℕ) where
   pub find_none : (key : List ℕ) (xs : List A) → All (λ x. key_of x ≢ key) xs → find key_of key xs ≡ None
   find_none key xs all = none_each key xs (recursion_from_All (λ x. key_of x ≢ key) xs all)
 
-  -- the one at a place, where no other has its key
+  -- the one at a place, if no other has its key
   pub find_place : (xs : List A) (place : ℕ) (d : A) → AllPairs (λ a b. key_of a ≢ key_of b) xs → place < length xs →
       find key_of (key_of (get_or xs place d)) xs ≡ Some (get_or xs place d)
   find_place [] place d apart inside = absurd (omega arith)

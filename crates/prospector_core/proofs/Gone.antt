@@ -1,4 +1,4 @@
--- Files that are gone: they stand beside the others until the next scan, and are not among the known ones.
+-- Files that are gone: they are beside the others until the next scan, and are not among the known ones.
 use Rattle.std.proofs.Common.{◌≡◌, ◌≢◌, ℕ, zero, suc, ◌+◌, ◌<◌, ◌≤◌, Bool, true, false, cond, not, List, [], ◌∷◌, ◌++◌, length, map, get_or, set, All, AllPairs, Contains, Option, Some, None, IfNone, OnErr, Result, Ok, Err, filter, inl, inr, refl, sym, ap, ◌∙◌, subst, arith, eqb, if◌then◌else◌}
 use Rattle.std.specs.List.Sorted.{IsNonDecreasingBy, IsPartitionPoint, IsSortedBy}
 use Rattle.std.specs.Ordering.{is_lt, nat_cmp, ordering_index}
@@ -249,7 +249,7 @@ others_here slot (one ∷ watched) (suc place) d apart inside is gone =
     by_case true rest = rest
     by_case false rest = All-cons (λ later. later.file.slot.0 ≢ slot) one (here watched) (before_at slot one watched place d apart inside is) rest
 
--- no known file has the slot, where the one of the slot is gone, and where there is none
+-- no known file has the slot, if the one of the slot is gone, and if there is none
 pub slot_gone : (watched : List Watched) (slot : Slot) (place : ℕ) (one : Watched) → AllPairs StandsBefore (files_of watched) → place < length watched → one ≡ get_or watched place one → one.file.slot.0 ≡ slot.0 → one.gone ≡ true →
     All (λ file. file.slot ≢ slot) (files_of (here watched))
 slot_gone watched slot place one apart inside here_is is gone =
@@ -269,7 +269,7 @@ swept_stay before swept is = subst (λ (l : List Watched). All Stays l) (sym is)
 pub swept_known : (before swept : List Watched) (next others : ℕ) → swept ≡ here before → AreKnown (all_by before next others) → AreKnown (all_by swept next others)
 swept_known before swept next others is are = subst (λ (l : List Watched). AreKnown (all_by l next others)) (sym is) (known_here before next others are)
 
--- where none is gone, those that are known are all
+-- if none is gone, those that are known are all
 pub view_of_all : (watched : List Watched) (next others : ℕ) → All Stays watched → known_by watched next others ≡ all_by watched next others
 view_of_all watched next others stay = ap (λ (l : List Watched). all_by l next others) (here_all watched stay)
 

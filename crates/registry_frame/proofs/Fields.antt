@@ -1,4 +1,4 @@
--- Which operation the tokens behind an operation's brace are of, by the first name.
+-- Which operation the tokens after an operation's brace are of, by the first name.
 use Rattle.std.proofs.Common.{◌≡◌, ◌⊎◌, inl, inr, ℕ, ◌≤◌, Bool, true, false, List, [], ◌∷◌, ◌++◌, length, Option, Some, None, refl, sym, ap, ◌∙◌, arith, codes, decimal}
 use Rattle.std.specs.Prelude.{◌==◌, if◌then◌else◌}
 use Rattle.std.specs.Str.{bytes_eq}
@@ -13,7 +13,7 @@ use Rattle.wire_base.specs.declared.row.Op.TheVariants.{Set, Remove}
 use Rattle.registry_frame.specs.Tokens.{field_tokens, list_tokens, removal_tokens, row_tokens}
 use Rattle.registry_frame.proofs.OneReading.{is_zero}
 
--- the tokens behind the first name
+-- the tokens after the first name
 pub record IsRemoval (op : Op) (name : List ℕ) (tail rest : List Token) : Type 0 where
   pub key : List ℕ
   pub operation : op ≡ Remove key
@@ -104,7 +104,7 @@ list_open : (ops : List Op) → after_end_array (list_tokens ops) ≡ None → (
 list_open [] opened = absurd (cc opened)
 list_open (op ∷ ops) opened = (op, ops, refl)
 
--- where the list is not at its end, its next operation comes first
+-- if the list is not at its end, its next operation comes first
 pub next_operation : (reader new : List Token) (left : List Op) → after_end_array reader ≡ None → new ≡ reader → reader ≡ list_tokens left
     → (op : Op) × (later : List Op) × (left ≡ op ∷ later) × (new ≡ json.begin_object ∷ field_tokens op (list_tokens later))
 next_operation reader new left opened same begins =

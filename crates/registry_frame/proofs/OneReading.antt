@@ -1,4 +1,4 @@
--- A body has one reading: what stands in front of the rest of a text is read in one way, part for part.
+-- A body has one reading: what is before the rest of a text is read in one way, part for part.
 use Rattle.std.proofs.Common.{◌≡◌, ℕ, suc, ◌+◌, ◌*◌, ◌-◌, ◌/◌, ◌%◌, ◌^◌, ◌<◌, ◌≤◌, Bool, true, false, List, [], ◌∷◌, ◌++◌, get_or, drop, Option, Some, None, refl, sym, ◌∙◌, ap, subst, inl, inr, append_assoc, arith, codes, decimal}
 use Rattle.std.specs.Prelude.{All, ◌==◌, nat_lt, if◌then◌else◌}
 use Rattle.std.specs.List.{flat_map}
@@ -58,7 +58,7 @@ coded [] = None
 coded (a ∷ []) = None
 coded (a ∷ b ∷ rest) = Some (digit_of a * 16 + digit_of b, rest)
 
--- the same of what stands behind a backslash
+-- the same of what follows a backslash
 abbrev behind_backslash : List ℕ → Option (ℕ × List ℕ)
 behind_backslash [] = None
 behind_backslash (c ∷ rest) =
@@ -70,7 +70,7 @@ behind_backslash (c ∷ rest) =
     else (if c == 0x66 then Some (0x0C, rest)
     else (if c == 0x72 then Some (0x0D, rest) else coded (drop 2 rest)))))))
 
--- the first byte that stands in a text, and what follows it there; none at the text's end
+-- the first byte that is in a text, and what follows it there; none at the text's end
 abbrev first_byte : List ℕ → Option (ℕ × List ℕ)
 first_byte [] = None
 first_byte (c ∷ rest) = if c == 0x22 then None else (if c == 0x5C then behind_backslash rest else Some (c, rest))

@@ -21,7 +21,7 @@ before_offset = codes ",\"offset\":"
 abbrev pub before_path : List ℕ
 before_path = codes ",\"op\":\"set\",\"path\":"
 
--- the parts of a text of ten behind its first byte, one after the other
+-- the parts of a text of ten after its first byte, one after the other
 ten_parts : (a b c d e f g h i j : List ℕ) → codes "{" ++ (a ++ (b ++ (c ++ (d ++ (e ++ (f ++ (g ++ (h ++ (i ++ j))))))))) ≡ codes "{" ++ a ++ b ++ c ++ d ++ e ++ f ++ g ++ h ++ i ++ j
 ten_parts a b c d e f g h i j = simp append_assoc refl
 

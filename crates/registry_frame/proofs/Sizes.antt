@@ -9,7 +9,7 @@ use Rattle.registry_frame.specs.Body.{body_bytes, operation_bytes}
 use Rattle.registry_frame.specs.BodyOf.{IsBodyOf, IsStoredOp}
 use Rattle.registry_frame.specs.declared.body_text.Front.{Front}
 
--- a bracket or a comma, and the operation behind it
+-- a bracket or a comma, and the operation after it
 abbrev pub size_of : Op → ℕ
 size_of op = length (operation_bytes op) + 1
 
@@ -32,7 +32,7 @@ body_size (op ∷ ops) some =
     let sum = sum_by-cons size_of op ops in
     omega (arith, later, all, sum)
 
--- so many operations of a list are the body of a record where their texts are short enough together
+-- this many operations of a list are the body of a record where their texts are short enough together
 pub taken_fits : (ops : List Op) (count most : ℕ) → 0 < count → count ≤ length ops → 1 + sum_by size_of (take count ops) ≤ most → length (body_bytes (take count ops)) ≤ most
 taken_fits ops count most some within fits =
     let long = length-take count ops in

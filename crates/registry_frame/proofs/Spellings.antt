@@ -49,7 +49,7 @@ print_operation : (op : Op) (rest : List Token) → print_from false (json.begin
 print_operation (Set row) rest = print_set (row.changed.0 == 0) row rest ∙ sym (set_parts row (print_from true rest))
 print_operation (Remove key) rest = print_removal key rest
 
--- a comma stands before an operation that follows another
+-- a comma is before an operation that follows another
 print_next : (op : Op) (rest : List Token) → print_from true (json.begin_object ∷ field_tokens op rest) ≡ 44 ∷ print_from false (json.begin_object ∷ field_tokens op rest)
 unfolding print_from
 print_next op rest = refl

@@ -1,4 +1,4 @@
--- What a crash leaves at any moment of appending a record, and what stands there in the end.
+-- What a crash leaves at any moment of appending a record, and what is there in the end.
 use Rattle.std.proofs.Common.{◌≡◌, inl, ℕ, ◌+◌, ◌<◌, List, [], ◌∷◌, ◌++◌, length, Option, Some, IfSome, ◌∙◌, ap, subst, arith, codes, length-append}
 use Rattle.outside.specs.DiskImages.{LeavesOnly, Torn}
 use Rattle.outside.specs.DiskReads.{written}
@@ -10,7 +10,7 @@ use Rattle.registry_log.proofs.Crashes.{behind, weaker}
 use Rattle.registry_log.proofs.Heads.{record_length}
 use Rattle.registry_log.proofs.Recorded.{AreFit, behind_gate, gate_torn, gate_written, longer_than_gate, opened_bytes, torn_record, written_behind_gate}
 
--- the area that is told, once the record is written behind its gate
+-- the area that is told, once the record is written after its gate
 mid_bytes : (contents mid : Option (List ℕ)) (area : List ℕ) (generation : ℕ) (rows : List Row) (end : ℕ) (ops : List Op) (text : List ℕ) → contents ≡ Some area → MayAppend area generation rows end ops → AreFit ops
     → 0x7B ∷ text ≡ record_bytes ops ++ codes "." → IfSome contents (λ before. mid ≡ Some (written before (end + 1) text)) → mid ≡ Some (behind_gate area end text)
 mid_bytes contents mid area generation rows end ops text told may fit spelled writes =

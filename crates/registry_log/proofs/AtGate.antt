@@ -1,4 +1,4 @@
--- What stands at a gate of an area, by the bytes that were read of it.
+-- What is at a gate of an area, by the bytes that were read of it.
 use Rattle.std.proofs.Common.{◌≡◌, ◌⊎◌, inl, inr, ℕ, ◌+◌, ◌≤◌, List, [], ◌∷◌, ◌++◌, length, drop, sym, ap, ◌∙◌, subst, arith, append_assoc, length-append, length-drop}
 use Rattle.std.proofs.lemmas.List.{drop-drop, drop_at, nil_from_length}
 use Rattle.wire_base.specs.declared.row.Op.{Op}

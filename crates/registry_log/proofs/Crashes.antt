@@ -10,7 +10,7 @@ same_bytes : (a b : List ℕ) → Some a ≡ Some b → a ≡ b
 same_bytes a b same = cc
 
 module _ {D : Type 0} (moment : D → ℕ) (images_since : D → ℕ → List ℕ → Type 0) where
-  -- one run behind another
+  -- one run after another
   pub behind : (old mid new : D) (P : List ℕ → Type 0) → LeavesOnly moment images_since old mid P → LeavesOnly moment images_since mid new P → LeavesOnly moment images_since old new P
   behind old mid new P first second = record {
     later = omega (arith, first.later, second.later);
@@ -25,7 +25,7 @@ module _ {D : Type 0} (moment : D → ℕ) (images_since : D → ℕ → List �
     before = λ start image le left. ⊎_elim inl (λ is. inr (holds image is)) (leaves.before start image le left);
   }
 
-  -- a call that changes the bytes, where nothing was pending
+  -- a call that changes the bytes, if nothing was pending
   pub changed : (old new : D) (contents : Option (List ℕ)) (before_images images : List ℕ → Type 0) (Step : List ℕ → List ℕ → Type 0) → ((area : List ℕ) → Step area area)
       → ((image : List ℕ) → images_since old (moment old) image → before_images image) → Only contents before_images
       → Elapses (moment old) (moment new) (images_since old) (images_since new) images → Follows Step before_images images
@@ -37,7 +37,7 @@ module _ {D : Type 0} (moment : D → ℕ) (images_since : D → ℕ → List �
       time
       (λ image is. let from = follows image is in let S : List ℕ → Type 0 = λ l. Step l image in subst S (sym (same_bytes before from.0 (only from.0 from.1))) from.2)
 
-  -- and the sync behind it
+  -- and the sync after it
   pub changed_and_synced : (old mid new : D) (contents : Option (List ℕ)) (before_images images later : List ℕ → Type 0) (Step : List ℕ → List ℕ → Type 0) → ((area : List ℕ) → Step area area)
       → ((image : List ℕ) → images_since old (moment old) image → before_images image) → Only contents before_images
       → Elapses (moment old) (moment mid) (images_since old) (images_since mid) images → Follows Step before_images images
@@ -48,7 +48,7 @@ module _ {D : Type 0} (moment : D → ℕ) (images_since : D → ℕ → List �
       goes_on moment images_since old mid new (Step before) later (changed old mid (Some before) before_images images Step stays here only time follows) synced
       (λ image is. let from = follows image (less image is) in let S : List ℕ → Type 0 = λ l. Step l image in subst S (sym (same_bytes before from.0 (only from.0 from.1))) from.2)
 
-  -- ---- the steps of starting an area, of which `old` is the disk as it was and `bytes` are to stand there in the end
+  -- ---- the steps of starting an area, of which `old` is the disk as it was and `bytes` are to be there in the end
   module _ (old : D) (contents : Option (List ℕ)) (bytes : List ℕ) where
     abbrev pub LeavesPartWritten : D → Type 0
     LeavesPartWritten new = IfSome contents (λ before. LeavesOnly moment images_since old new (IsPartWritten (123 ∷ bytes) before))

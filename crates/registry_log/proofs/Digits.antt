@@ -31,7 +31,7 @@ same_digits (d ∷ ds) (e ∷ es) m n are too even same =
 seven : (size : ℕ) → size ≤ MAX_BODY → length (padded 7 size) ≡ 7
 seven size low = padded_length 7 size (length-decimal-le 7 size (omega arith) (omega (arith, low)) (omega (arith, low)))
 
--- seven digits of a number that is not too great are the number behind zeros
+-- seven digits of a number that is not too great are the number after zeros
 pub digits_padded : (ds : List ℕ) (size : ℕ) → All IsAsciiDigit ds → length ds ≡ 7 → digits_value 10 ds ≡ size → size ≤ MAX_BODY → ds ≡ padded 7 size
 digits_padded ds size are long value low =
     (same_digits ds (padded 7 size) 0 0 are (padded_digits 7 size (omega (arith, low))) (long ∙ sym (seven size low)) (value ∙ sym (padded_value 7 size (omega (arith, low))))).1

@@ -27,7 +27,7 @@ take_past (x ∷ front) more (suc n) enough =
 pub whole_of : (front whole : List ℕ) → IsFront front whole → whole ≡ front ++ drop (length front) whole
 whole_of front whole is = sym (take-append-drop (length front) whole) ∙ ap (λ (l : List ℕ). l ++ drop (length front) whole) (sym is)
 
--- so many bytes are there, or all
+-- this many bytes are there, or all
 abbrev pub IsEnough : ℕ → List ℕ → List ℕ → Type 0
 IsEnough wanted front whole = (wanted ≤ length front) ⊎ (length whole ≤ length front)
 

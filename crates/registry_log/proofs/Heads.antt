@@ -1,4 +1,4 @@
--- What stands at a gate: a head with the length of a body, and a record behind it.
+-- What is at a gate: a head with the length of a body, and a record after it.
 use Rattle.std.proofs.Common.{◌≡◌, ◌≢◌, ℕ, ◌+◌, ◌<◌, ◌≤◌, List, [], ◌∷◌, ◌++◌, length, take, drop, get_or, refl, sym, ap, ◌∙◌, arith, append_assoc, length-append, length-drop}
 use Rattle.std.proofs.lemmas.List.{drop-drop, drop_more, get_or_at, get_or-drop, length-take-le, take-append-drop, take_at}
 use Rattle.wire_base.specs.declared.row.Op.{Op}
@@ -51,7 +51,7 @@ whole_head (gate ∷ bytes) size long opened spaced digits =
 
 -- ---- the record
 
--- what a record says of the bytes behind its head
+-- what a record says of the bytes after its head
 pub record StandsIn (ops : List Op) (bytes : List ℕ) (size : ℕ) : Type 0 where
   pub long : size + 10 ≤ length bytes
   pub ended : get_or bytes (9 + size) 0 ≡ 10

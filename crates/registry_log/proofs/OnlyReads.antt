@@ -1,4 +1,4 @@
--- Calls that only read, one behind another.
+-- Calls that only read, one after another.
 use Rattle.std.proofs.Common.{◌≡◌, ℕ, ◌≤◌, List, Option, refl, ◌∙◌, arith}
 use Rattle.outside.specs.DiskImages.{Elapses}
 use Rattle.outside.specs.Moments.{goes_on, started}
@@ -25,7 +25,7 @@ module _ {D : Type 0} (contents : D → Option (List ℕ)) (images : D → List 
     faults_kept = count;
   }
 
-  -- one run behind another
+  -- one run after another
   pub both : (old mid new : D) → IsOnlyRead contents images moment images_since faults old mid → IsOnlyRead contents images moment images_since faults mid new
       → IsOnlyRead contents images moment images_since faults old new
   both old mid new first second = record {

@@ -5,7 +5,7 @@ use Rattle.wire_base.specs.declared.row.Row.{Row}
 use Rattle.registry_log.specs.Area.{area_bytes, sets}
 use Rattle.registry_log.specs.Records.{padded, record_of, records_bytes}
 
--- a number behind zeros, as a hole of width seven or twenty prints it
+-- a number after zeros, as a hole of width seven or twenty prints it
 pub seven_digits : (n : ℕ) → styled_decimal (format_spec 32 0 4 7 (2 ^ 64 - 1)) n ≡ padded 7 n
 unfolding padded_integral char_count
 seven_digits n =
@@ -31,7 +31,7 @@ record_printed old text head digits body size head_is digits_are size_is text_is
 text_parts : (digits body : List ℕ) → 123 ∷ ((digits ++ 32 ∷ []) ++ body ++ 10 ∷ 46 ∷ []) ≡ (codes "{" ++ digits ++ codes " " ++ body ++ codes "\n") ++ codes "."
 text_parts digits body = simp append_assoc refl
 
--- a record behind its gate, and the closed gate behind it
+-- a record after its gate, and the closed gate after it
 pub text_printed : (text head digits body : List ℕ) (size : ℕ) → head ≡ digits ++ 32 ∷ [] → digits ≡ padded 7 size → size ≡ length body → text ≡ head ++ body ++ 10 ∷ 46 ∷ []
     → 123 ∷ text ≡ record_of body ++ codes "."
 text_printed text head digits body size head_is digits_are size_is text_is =

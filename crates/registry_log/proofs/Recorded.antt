@@ -88,7 +88,7 @@ pub record AreFit (ops : List Op) : Type 0 where
   pub each : All IsStoredOp ops
   pub body : length (body_bytes ops) ≤ MAX_BODY
 
--- with a record and a closed gate behind it the area has the rows after the record
+-- with a record and a closed gate after it the area has the rows after the record
 pub recorded : (area : List ℕ) (generation : ℕ) (rows : List Row) (end : ℕ) (ops : List Op) (rest : List ℕ) → MayAppend area generation rows end ops → AreFit ops
     → IsOpened (take end area ++ (record_bytes ops ++ 46 ∷ rest)) generation (replay_on rows ops) (gate_behind end ops)
 recorded area generation rows end ops rest may fit =
@@ -178,7 +178,7 @@ module _ (area : List ℕ) (end : ℕ) (text : List ℕ) (inside : end < length 
       drop_more image end 0 there ∙ ap (λ (l : List ℕ). get_or image end 0 ∷ l) (torn.back ∙ back_stays) in
       (get_or image end 0, sym (take-append-drop end image) ∙ (λ i. front i ++ back i))
 
--- the text of a record behind its gate, and the closed gate
+-- the text of a record after its gate, and the closed gate
 pub opened_bytes : (area : List ℕ) (end : ℕ) (ops : List Op) (text : List ℕ) (inside : end < length area) → 0x7B ∷ text ≡ record_bytes ops ++ codes "." → with_gate area end text inside 0x7B ≡ appended_bytes area end ops
 opened_bytes area end ops text inside spelled =
     let sized : end + 1 + length text ≡ end + length (record_bytes ops) + 1 = omega (arith, ap length spelled, length-append (record_bytes ops) (codes ".")) in

@@ -10,7 +10,7 @@ use Rattle.registry_log.specs.declared.area_text.TheConstants.{MAX_BODY}
 use Rattle.registry_log.specs.Reading.{BeginsWithRecord}
 use Rattle.registry_log.specs.Records.{padded, record_of}
 
--- ---- digits behind zeros
+-- ---- digits after zeros
 
 value_behind_zeros : (zeros : ℕ) (ds : List ℕ) → digits_value 10 (replicate zeros 48 ++ ds) ≡ digits_value 10 ds
 value_behind_zeros zero ds = refl

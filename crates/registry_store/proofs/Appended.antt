@@ -1,4 +1,4 @@
--- Records that are appended one behind another.
+-- Records that are appended one after another.
 use Rattle.std.proofs.Common.{◌≡◌, inl, inr, ℕ, ◌+◌, ◌-◌, ◌<◌, ◌≤◌, List, [], ◌∷◌, ◌++◌, length, take, drop, get_or, Option, Some, Result, Ok, Err, OnErr, refl, sym, ap, ◌∙◌, subst, arith}
 use Rattle.std.proofs.Math.Seq.{take-add}
 use Rattle.std.proofs.lemmas.List.{length-drop, take_all, take_more}
@@ -20,7 +20,7 @@ pub replay_in_parts : (rows : List Row) (ops more : List Op) → replay_on rows 
 replay_in_parts rows [] more = refl
 replay_in_parts rows (op ∷ ops) more = replay_in_parts (after_op rows op) ops more
 
--- the operations of the next record, behind those that are done
+-- the operations of the next record, after those that are done
 pub record IsNext (ops : List Op) (done count : ℕ) (part : List Op) : Type 0 where
   pub within : done + count ≤ length ops
   pub are : part ≡ take count (drop done ops)

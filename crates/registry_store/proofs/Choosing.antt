@@ -1,4 +1,4 @@
--- Which of two areas is chosen, where one is used and the other yields to it.
+-- Which of two areas is chosen, if one is used and the other yields to it.
 use Rattle.std.proofs.Common.{◌≡◌, inl, inr, ℕ, ◌<◌, ◌⊎◌, Bool, true, false, nat_lt, if◌then◌else◌, List, [], ◌∷◌, refl, sym, ◌∙◌, ap, subst, arith}
 use Rattle.std.proofs.lemmas.Bool.Decides.{nat_tests}
 use Rattle.wire_base.specs.declared.limits.Which.{Which}

@@ -18,7 +18,7 @@ after_first rows ops more found after = record {
   replayed = ap (replay_on rows) (take-append-le after.count ops more after.within) ∙ after.replayed;
 }
 
--- and so are rows after some of the later ones, behind all of the first
+-- and so are rows after some of the later ones, after all of the first
 pub after_later : (rows : List Row) (ops more : List Op) (found : List Row) → AreAfterSome (replay_on rows ops) more found → AreAfterSome rows (ops ++ more) found
 after_later rows ops more found after = record {
   count = length ops + after.count;
@@ -50,7 +50,7 @@ module _ {D : Type 0} (contents : D → Option (List ℕ)) (images : D → List 
       (λ image is. held_later (contents disk) (contents mid) generation next rows ops more image no_less
       (λ holds. first.each image (counts mid (moment disk) image first.later (subst (λ (o : Option (List ℕ)). IfSome o (images mid)) holds (reads mid)))) is))
 
-  -- one run of commits behind another
+  -- one run of commits after another
   pub in_a_row : (a b mid_a mid_b later_a later_b : D) (generation next : ℕ) (rows : List Row) (ops more : List Op) → generation ≤ next
       → GoesOn contents moment images_since generation rows ops a b mid_a mid_b
       → GoesOn contents moment images_since next (replay_on rows ops) more mid_a mid_b later_a later_b

@@ -3,7 +3,7 @@ use Rattle.std.proofs.Common.{inl, inr, ⊎_elim, ℕ, List, arith}
 use Rattle.outside.specs.DiskImages.{LeavesOnly}
 
 module _ {D : Type 0} (moment : D → ℕ) (images_since : D → ℕ → List ℕ → Type 0) where
-  -- one run behind another
+  -- one run after another
   pub behind : (old mid new : D) (P : List ℕ → Type 0) → LeavesOnly moment images_since old mid P → LeavesOnly moment images_since mid new P → LeavesOnly moment images_since old new P
   behind old mid new P first second = record {
     later = omega (arith, first.later, second.later);

@@ -20,7 +20,7 @@ pub code_escape : (byte : ℕ) → IsTrue (is_escaped byte) → byte ≢ 0x22 �
 unfolding escape
 code_escape byte is a b d e f h k = grind (arith, nat_tests)
 
--- bytes that stand as they are
+-- bytes that are as they are
 plain_bytes : (bytes : List ℕ) → ((k : ℕ) → k < length bytes → is_escaped (get_or bytes k 0) ≡ false) → flat_map escape bytes ≡ bytes
 plain_bytes [] plain = refl
 plain_bytes (x ∷ xs) plain =
@@ -37,7 +37,7 @@ escapes_plain bytes none =
     let all_before : length bytes ≤ position_or_len is_escaped bytes = grind (arith, nat_tests, none_from _ _ none) in
     plain_bytes bytes (λ k below. fails_before_first is_escaped bytes k 0 (omega arith))
 
--- the byte behind those that stand as they are
+-- the byte after those that are as they are
 pub escaped_next : (bytes rest : List ℕ) (at : ℕ) → position is_escaped bytes ≡ Some at → rest ≡ drop at bytes →
     (0 < length rest) × IsTrue (is_escaped (get_or rest 0 0))
 escaped_next bytes rest at some is_rest =
@@ -59,7 +59,7 @@ pub escapes_next : (rest : List ℕ) → 0 < length rest → flat_map escape res
 escapes_next [] some = absurd (omega arith)
 escapes_next (x ∷ xs) some = refl
 
--- one turn of the loop: the bytes that stand as they are, and the escape of the byte behind them
+-- one turn of the loop: the bytes that are as they are, and the escape of the byte after them
 pub escape_step : (old : Option (List ℕ)) (text : List ℕ) (between after : Option (List ℕ)) (rest : List ℕ) (most : ℕ) →
     0 < length rest → length rest ≤ 1 + most → Continues old text between (flat_map escape rest) →
     WritesAll between (escape (get_or rest 0 0)) (Ok tt) after → Continues old text after (flat_map escape (take most (drop 1 rest)))

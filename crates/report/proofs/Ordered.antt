@@ -170,7 +170,7 @@ same_first a b one other sorted ordered has had = elim (member_cases b a other h
   ]
 ]
 
--- behind a first one that both have, each has what the other has
+-- after a first one that both have, each has what the other has
 later_too : (a b : Passing) (one other : List Passing) → a ≡ b → IsStrictlySortedBy compare_passings (a ∷ one) → ((p : Passing) → Contains (a ∷ one) p → Contains (b ∷ other) p) →
     (p : Passing) → Contains one p → Contains other p
 later_too a b one other same sorted to p member = elim (member_cases b p other (to p (later_of a p one member))) [

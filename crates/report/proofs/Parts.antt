@@ -4,7 +4,7 @@ use Rattle.std.proofs.Math.Seq.{take-add}
 use Rattle.std.proofs.lemmas.List.{drop-drop, length-drop, take_all}
 use Rattle.outside.specs.Streams.{WritesOn}
 
--- `left` is what is left of the text, and the front of it stands behind what the sink held
+-- `left` is what is left of the text, and the front of it follows what the sink held
 pub record FrontWritten (written : List ℕ) (text left : List ℕ) (after : Option (List ℕ)) : Type 0 where
   pub front : ℕ
   pub left_is : left ≡ drop front text

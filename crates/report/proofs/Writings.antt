@@ -1,4 +1,4 @@
--- Texts that are written one behind the other.
+-- Texts that are written one after another.
 use Rattle.std.proofs.Common.{◌≡◌, ℕ, zero, suc, ◌+◌, List, [], ◌∷◌, ◌++◌, length, take, Option, Some, None, Result, Ok, Err, IsErr, refl, sym, ◌∙◌, ap, subst, append_assoc, arith}
 use Rattle.std.proofs.lemmas.Bool.{false≢true}
 use Rattle.outside.specs.declared.failed.Failed.{Failed}
@@ -12,7 +12,7 @@ take-behind (x ∷ a) b count =
     let same : suc (length a + count) ≡ suc (length a) + count = omega arith in
     ap (λ (l : List ℕ). x ∷ l) (take-behind a b count) ∙ ap (λ (n : ℕ). take n (x ∷ a ++ b)) same
 
--- a front of a text is one of it with more behind
+-- a front of a text is one of it with more after
 front_of : (a b : List ℕ) (count : ℕ) → (more : ℕ) × (take count a ≡ take more (a ++ b))
 front_of a b zero = (0, refl)
 front_of [] b (suc count) = (0, refl)

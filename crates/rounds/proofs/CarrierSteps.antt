@@ -1,4 +1,4 @@
--- The turns of a worker in a round, one behind the other.
+-- The turns of a worker in a round, one after another.
 use Rattle.std.proofs.Common.{true, false, ◌≡◌, ℕ, suc, ◌+◌, ◌<◌, Bool, List, [], ◌∷◌, ◌++◌, Option, Some, None, length, inl, inr, refl, sym, ap, subst, ◌∙◌, arith}
 use Rattle.atomic_table.specs.Seated.{TableId}
 use Rattle.batch_worker.specs.Keeping.{WorkerKeeps, with_posted, with_taken}

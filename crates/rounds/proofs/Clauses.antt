@@ -81,7 +81,7 @@ module _ {T W L D : Type 0} (words : Words T W L D) (queue : BoundedQueue) (desk
 
   -- ---- moved means moved
 
-  -- by what lanes, workers and the keeper told before their passes met
+  -- by what lanes, workers and the keeper reported before their passes met
   moved_is : (old new : Crewing T W L D) (round : Round) → (rounds : Rounds words queue desk when old new round)
       → round.moved ≡ ((rounds.mid.storing.stored.moved || some_lane_moved (lanings rounds.mid.lanes.items)) || some_carrier_moved rounds.mid.carriers.items)
   moved_is old new round rounds =

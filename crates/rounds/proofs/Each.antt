@@ -8,7 +8,7 @@ use Rattle.rounds.specs.Pairs.{Pairs}
 pub each_mapped : {A B : Type 0} (P : B → Type 0) (f : A → B) (xs : List A) → All P (map f xs) → (i : ℕ) (d : A) → i < length xs → P (f (slice_index_or xs i d))
 each_mapped P f xs all i d within = subst P (get_or-map f xs i d) (all i (f d) (omega (arith, length-map xs f)))
 
--- two parts of a list, one behind the other
+-- two parts of a list, one after another
 pub paired_parts : {A : Type 0} (R : A → A → Type 0) (old front back : List A) (new more : List A) → old ≡ front ++ back → Pairs R front new → Pairs R back more → Pairs R old (new ++ more)
 paired_parts {A} R old front back new more is pairs later = subst (λ (l : List A). Pairs R l (new ++ more)) (sym is) (joined front new pairs)
   where

@@ -1,4 +1,4 @@
--- The turns of the keeper in a round, one behind the other.
+-- The turns of the keeper in a round, one after another.
 use Rattle.std.proofs.Common.{◌≡◌, ℕ, suc, ◌+◌, ◌<◌, Bool, true, false, List, [], ◌∷◌, ◌++◌, length, inl, inr, refl, sym, ap, subst, ◌∙◌, arith}
 use Rattle.settle_box.specs.Collector.{Collector}
 use Rattle.keeper.specs.declared.turn.KeeperTurn.{KeeperTurn}

@@ -248,7 +248,7 @@ posts_counted queue desk mid new meets =
     let same : posts_of before ≡ posts_of after = posts_many before ∙ ap length (sym meets.met.posted) ∙ sym (posts_many after) in
     meets.posted ∙ ap (λ (n : ℕ). min n (2 ^ 64 - 1)) same
 
--- where all is settled, all that were posted were collected
+-- if all is settled, all that were posted were collected
 pub posts_collected : {T W L : Type 0} (crew : Crew T W L) (keeper : Keeping) → ArePostsCounted crew → AreSettledIn crew keeper
     → posts_of (senders (lanes_passes (lanings crew.lanes.items)) ++ senders (carriers_passes crew.carriers.items)) ≡ keeper.collected
 posts_collected crew keeper counted settled = omega (arith, counted, settled.collected.below, settled.collected.collected)

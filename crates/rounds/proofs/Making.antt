@@ -63,7 +63,7 @@ module _ {V : Type 0} (share : V → List ℕ) (views : List V) (v : V) (left wh
         omega (arith, weigh-snoc share h views v, ap (weigh h) is, weigh-append h (flat_map share views) left, worth.same scale fine);
   }
 
--- ---- one behind the others
+-- ---- one after the others
 
 each_snoc : {V : Type 0} (P : V → Type 0) (views : List V) (v : V) → AllByRecursion P views → P v → AllByRecursion P (views ++ v ∷ [])
 each_snoc P [] v each one = (one, tt)

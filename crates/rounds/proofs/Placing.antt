@@ -1,4 +1,4 @@
--- What was told is booked and placed, as a round ends.
+-- What was reported is booked and placed, as a round ends.
 use Rattle.std.proofs.Common.{◌≡◌, ℕ, List, [], ◌∷◌, ◌++◌, refl, sym, ap, subst, ◌∙◌}
 use Rattle.atomic_table.specs.Seated.{TableId}
 use Rattle.batch_worker.specs.Held.{carried_in, notes_of, owed_by}

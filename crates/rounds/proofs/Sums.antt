@@ -194,7 +194,7 @@ module _ {W L : Type 0} (links : LinkWords L) (wires : WireWords W) where
           stand = (k.stands first.start first.parcels stands, rest.stand);
         }
 
--- ---- both: what was told since is booked, too
+-- ---- both: what was reported since is booked, too
 
 noted_both : (h : Note → ℕ) (xs ys : List Parcel) → AsOften xs ys → weigh h (notes_of xs) ≡ weigh h (notes_of ys)
 noted_both h xs ys often = omega (arith, weigh-map h note_of xs, weigh-map h note_of ys, often (λ (p : Parcel). h (note_of p)))

@@ -22,7 +22,7 @@ pub ahead_is_known : (next : Option Note) (first : Note) (pass : Pass Note Hand)
 ahead_is_known None first pass ahead knows = absurd cc
 ahead_is_known (Some x) first pass ahead knows = some_rest (view pass).rest x knows
 
--- a list of senders that begins with a named one still does so, with more behind it
+-- a list of senders that begins with a named one still does so, with more after it
 pub still_named : (ss more all : List Sender) → all ≡ ss ++ more → ss ≡ first_of ss ∷ others_of ss → all ≡ first_of all ∷ others_of all
 still_named [] more all is named = absurd cc
 still_named (s ∷ ss) more all is named = subst (λ (y : List Sender). y ≡ first_of y ∷ others_of y) (sym is) refl

@@ -30,7 +30,7 @@ built : List Row → List Note → List (List ℕ) → List Row
 built opening notes [] = opening
 built opening notes (key ∷ keys) = put key (row_for opening notes key) (built opening notes keys)
 
--- the row, where there is one, has the key
+-- the row, if there is one, has the key
 abbrev pub HasKey : List ℕ → Option Row → Type 0
 HasKey key o = (row : Row) → o ≡ Some row → row.key ≡ key
 
@@ -85,7 +85,7 @@ named_key (Rename slot scan path) = None
 named_key (Seen slot changed) = None
 named_key (Forget slot epoch end) = None
 
--- a note names the key to a slot exactly where it is a Begin of that slot and key
+-- a note names the key to a slot exactly if it is a Begin of that slot and key
 pub slot_named : (key : List ℕ) (note : Note) (slot : ℕ) → slot_for key note ≡ Some slot → (start : Start) × (start_of note ≡ Some start) × (start.key ≡ key) × (slot_of note ≡ slot)
 slot_named key (Begin s named path epoch base changed) slot e = by_case (compare key named) refl e
   where

@@ -16,7 +16,7 @@ begins_there span place e =
 pub passes : (span : Extent) (place : ℕ) → span.start ≡ place → place < span.end → goes_on span place ≡ true
 passes span place at behind = and_from (span.start == place) (nat_lt place span.end) (eq-eqb span.start place at) (lt-ltb place span.end behind)
 
--- ---- how many spans begin at a place or behind it
+-- ---- how many spans begin at a place or after it
 
 abbrev later_count : List Extent → ℕ → ℕ
 later_count [] place = 0
@@ -30,7 +30,7 @@ later_few (span ∷ spans) place = by_case (nat_lt span.start place) (later_few 
     by_case true h = omega (arith, h)
     by_case false h = omega (arith, h)
 
--- fewer begin behind a further place
+-- fewer begin after a further place
 later_falls : (spans : List Extent) (place further : ℕ) → place ≤ further → later_count spans further ≤ later_count spans place
 later_falls [] place further le = omega arith
 later_falls (span ∷ spans) place further le = by_case (nat_lt span.start further) refl (nat_lt span.start place) refl (later_falls spans place further le)
@@ -42,7 +42,7 @@ later_falls (span ∷ spans) place further le = by_case (nat_lt span.start furth
 
 -- ---- one span further
 
--- what was found lies behind the place
+-- what was found lies after the place
 pub next_behind : (spans : List Extent) (place end : ℕ) → next_end spans place ≡ Some end → place < end
 next_behind [] place end e = absurd (let q : None ≡ Some end = e in cc)
 next_behind (span ∷ spans) place end e = by_case (goes_on span place) refl (next_behind spans place end) e
@@ -97,7 +97,7 @@ stable spans (suc n) place few = by_case (next_end spans place) refl (stable spa
         let less = later_fewer spans place end e in
         goes_within spans (suc n) place end e ∙ h end (omega (arith, less)) ∙ sym (goes_within spans n place end e)
 
--- where no span begins at the place, it is its own covered end
+-- if no span begins at the place, it is its own covered end
 pub stays : (spans : List Extent) (place : ℕ) → next_end spans place ≡ None → covered_end spans place ≡ place
 stays spans place e = stays_within spans (length spans) place e
 

@@ -167,7 +167,7 @@ module _ (from to : List Row) where
       by_case None is rest = rest rows e
       by_case (Some op) is rest = rest (after_op rows op) (by_order op is (compare key other) refl)
 
-  -- and each key comes to its row, where those without a change have it
+  -- and each key comes to its row, if those without a change have it
   reached : (key : List ℕ) (keys : List (List ℕ)) (rows : List Row) → find key rows ≡ find key from → ((Contains keys key → ⊥) → find key from ≡ find key to) → find key (replay_on rows (filter_map change_at keys)) ≡ find key to
   reached key [] rows e other = e ∙ other (none_there key)
   reached key (first ∷ keys) rows e other = by_order (compare key first) refl (reached key keys)
@@ -304,7 +304,7 @@ found_member op (first ∷ ops) ascending there = by_case (there_cases first op 
     by_case (inl same) rest = rw (compare_same (key_in op) (key_in first) (ap key_in (sym same))) (ap Some same)
     by_case (inr later) rest = rw (behind ops ascending.0 later) (rest later)
 
--- what tells each key's change leads there
+-- what reports each key's change leads there
 pub leads_by_told : (from to : List Row) (ops : List Op) → IsInOrder from → IsInOrder to → AreAscending ops → ((key : List ℕ) → entries.find key_in key ops ≡ change_of key (find key from) (find key to)) → LeadTo from to ops
 leads_by_told from to ops ordered others_ordered ascending told = record {
   ascending = ascending;
@@ -340,7 +340,7 @@ changed_own key was now has = by_case (is_same was now)
     by_case true = tt
     by_case false = by_row now has
 
--- where one key has another row, its change alone is another
+-- if one key has another row, its change alone is another
 pub lead_with : (from rows new : List Row) (ops : List Op) (key : List ℕ) (row : Option Row) → IsInOrder from → IsInOrder new → LeadTo from rows ops → HasKey key row → find key new ≡ row → ((other : List ℕ) → other ≢ key → find other new ≡ find other rows) → LeadTo from new (with_change key (change_of key (find key from) row) ops)
 lead_with from rows new ops key row ordered new_ordered lead has here others =
     leads_by_told from new (with_change key (change_of key (find key from) row) ops) ordered new_ordered (ascending_with key (change_of key (find key from) row) ops lead.ascending) (λ q. by_key q (compare q key) refl)

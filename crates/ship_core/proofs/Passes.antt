@@ -31,7 +31,7 @@ next_found (span ∷ spans) place = by_case ((span.start == place) && nat_lt pla
     by_case true h = refl
     by_case false h = h
 
--- so many spans are left, and the first of them leads on
+-- this many spans are left, and the first of them leads on
 pub one_further : (spans : List Extent) (left place : ℕ) (span : Extent) → 0 < left → first_that (λ (s : Extent). (s.start == place) && nat_lt place s.end) spans ≡ Some span → end_within spans left place ≡ end_within spans (left - 1) span.end
 one_further spans left place span some is = by_left left some
   where

@@ -77,7 +77,7 @@ same_spans first second apart there back =
         let found = found_span first place end some in
         ap (next_end second) (sym found.start) ∙ goes_by_member second found.span apart (there found.span found.there) (omega (arith, found.start, found.end_is, found.behind)) ∙ ap Some found.end_is
 
--- ---- the prefix of told spans
+-- ---- the prefix of reported spans
 
 pub adjoining_behind : (place : ℕ) (told : List Extent) (span : Extent) → Adjoin place told → Contains told span → place ≤ span.start
 adjoining_behind place [] span adjoin there = absurd (omega (arith, there.1))
@@ -87,7 +87,7 @@ adjoining_behind place (first ∷ told) span adjoin there = by_case (there_cases
     by_case (inl same) h = let start : first.start ≡ span.start = ap (λ (s : Extent). s.start) same in omega (arith, start, adjoin.0)
     by_case (inr later) h = omega (arith, h later, adjoin.1)
 
--- the told span that begins at the place is the first
+-- the reported span that begins at the place is the first
 told_first : (place : ℕ) (first : Extent) (told : List Extent) (span : Extent) → Adjoin place (first ∷ told) → Contains (first ∷ told) span → span.start ≡ place → first ≡ span
 told_first place first told span adjoin there at = by_case (there_cases first span told there)
   where
@@ -95,7 +95,7 @@ told_first place first told span adjoin there at = by_case (there_cases first sp
     by_case (inl same) = same
     by_case (inr later) = absurd (omega (arith, adjoining_behind first.end told span adjoin.2 later, adjoin.1, at))
 
--- what is settled behind the first told span is told behind it
+-- what is settled after the first reported span is reported after it
 later_told : (place : ℕ) (first : Extent) (told spans : List Extent) → Adjoin place (first ∷ told) → ((span : Extent) → Contains spans span → place ≤ span.start → span.start < span.end → Contains (first ∷ told) span) → (span : Extent) → Contains spans span → first.end ≤ span.start → span.start < span.end → Contains told span
 later_told place first told spans adjoin known span there le lt = by_case (there_cases first span told (known span there (omega (arith, adjoin.1)) lt))
   where
@@ -103,14 +103,14 @@ later_told place first told spans adjoin known span there le lt = by_case (there
     by_case (inl same) = absurd (let start : first.start ≡ span.start = ap (λ (s : Extent). s.start) same in omega (arith, start, adjoin.0, adjoin.1))
     by_case (inr later) = later
 
--- what is found at the place of the first told span is its end
+-- what is found at the place of the first reported span is its end
 first_end : (place : ℕ) (first : Extent) (told spans : List Extent) → Adjoin place (first ∷ told) → ((span : Extent) → Contains spans span → place ≤ span.start → span.start < span.end → Contains (first ∷ told) span) → (end : ℕ) → next_end spans place ≡ Some end → (end ≡ first.end) × Contains spans first
 first_end place first told spans adjoin known end some =
     let found = found_span spans place end some in
     let same = told_first place first told found.span adjoin (known found.span found.there (omega (arith, found.start)) (omega (arith, found.start, found.end_is, found.behind))) found.start in
     (sym found.end_is ∙ sym (ap (λ (s : Extent). s.end) same), subst (Contains spans) (sym same) found.there)
 
--- a covered end by spans that were told closes a prefix of what was told
+-- a covered end by spans that were reported closes a prefix of what was reported
 pub closes : (told spans : List Extent) (base : ℕ) → Adjoin base told → ((span : Extent) → Contains spans span → base ≤ span.start → span.start < span.end → Contains told span) → ClosesPrefix told spans base
 closes [] spans base adjoin known = record {
   front = [];
@@ -138,7 +138,7 @@ closes (first ∷ told) spans base adjoin known = by_next spans base stop (more 
           end_is = goes spans base end some ∙ ap (covered_end spans) first_is.0 ∙ others.end_is;
         }
 
--- and where all that was told is settled, it is the end of all
+-- and where all that was reported is settled, it is the end of all
 pub closes_all : (told spans : List Extent) (base : ℕ) → Adjoin base told → ((span : Extent) → Contains spans span → base ≤ span.start → span.start < span.end → Contains told span) → All (Contains spans) told → covered_end spans base ≡ last_end base told
 closes_all [] spans base adjoin known all = stays spans base (by_next spans base (λ e. e) (λ end some.
     let found = found_span spans base end some in
@@ -160,13 +160,13 @@ more_found (span ∷ spans) more place end some = by_case (goes_on span place) (
     by_case true h is = is
     by_case false h is = h is
 
--- with more spans behind it a covered end does not go back
+-- with more spans after it a covered end does not go back
 pub no_nearer : (spans more : List Extent) (place : ℕ) → covered_end spans place ≤ covered_end (spans ++ more) place
 no_nearer spans more = along (λ place. covered_end spans place ≤ covered_end (spans ++ more) place) spans
     (λ place none. rw (stays spans place none) (covers (spans ++ more) place))
     (λ place end some h. rw (goes spans place end some, goes (spans ++ more) place end (more_found spans more place end some)) h)
 
--- no covered end lies behind its place and all ends
+-- no covered end lies after its place and all ends
 pub no_further : (spans : List Extent) (most place : ℕ) → All (λ span. span.end ≤ most) spans → place ≤ most → covered_end spans place ≤ most
 no_further spans most place ends = along (λ place. place ≤ most → covered_end spans place ≤ most) spans
     (λ place none le. rw (stays spans place none) le)

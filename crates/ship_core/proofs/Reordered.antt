@@ -47,7 +47,7 @@ module _ {Y : Type 0} (h : Note → Option Y) (slot : ℕ) where
       by_case true (Some y) e = rw e refl
       by_case false o e = refl
 
-  -- what any two of the told say of each other stays so, where what a note tells says it of what was told before it
+  -- what any two of the reported say of each other stays so, if what a note reports says it of what was reported before it
   pub pairwise : (R : Y → Y → Type 0) → ((y : Y) → R y y) → ((x y : Y) → R x y → R y x) → ((notes : List Note) (note : Note) → MayFollow notes note → (y : Y) → tells note ≡ Some y → (x : Y) → Contains (told notes) x → R y x) → (notes : List Note) → AreOrderly notes → (x y : Y) → Contains (told notes) x → Contains (told notes) y → R x y
   pairwise R itself turned new = along_notes (λ (notes : List Note). (x y : Y) → Contains (told notes) x → Contains (told notes) y → R x y) (λ x y there other. absurd (none_there x there)) step
     where

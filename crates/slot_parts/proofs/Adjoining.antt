@@ -1,4 +1,4 @@
--- Told events adjoin: each of them has a byte.
+-- Reported events adjoin: each of them has a byte.
 use Rattle.std.proofs.Common.{◌≡◌, ◌≢◌, ◌⊎◌, inl, inr, ℕ, ◌<◌, List, [], ◌∷◌, ◌++◌, Contains, drop, refl, subst, arith}
 use Rattle.event_tree.specs.declared.group_rule.GroupRule.{GroupRule}
 use Rattle.event_tree.specs.declared.line_rule.LineRule.{LineRule}
@@ -19,7 +19,7 @@ use Rattle.slot_parts.proofs.Within.{shortest, shortest_has}
 pub none_told : (rules : Rules) (licences life : List ℕ) (place : ℕ) → AreTold rules licences life place []
 none_told rules licences life place = record { partition = tt; fates = tt }
 
--- the row is some lines, and the event ends behind its start
+-- the row is some lines, and the event ends after its start
 ends_later : (lines : LineRule) (life : List ℕ) (start end : ℕ) (row behind : List Line) → row ≢ [] → lines_from lines life start ≡ row ++ behind → row_end start row ≡ end → start < end
 ends_later lines life start end [] behind some are ends = absurd (some refl)
 ends_later lines life start end (first ∷ row) behind some are ends =
@@ -46,7 +46,7 @@ pub events_adjoin : (rules : Rules) (licences life : List ℕ) (start : ℕ) (to
 events_adjoin rules licences life start told in_range are =
     spans_adjoin rules.lines rules.events (λ place. Contains licences place) life start (spans_of told) in_range are.partition
 
--- the spans that are told of an epoch adjoin
+-- the spans that are reported of an epoch adjoin
 pub told_spans_adjoin : (rules : Rules) (telling : Telling) → IsGroupRule rules.events → IsTelling rules telling → Adjoin telling.start (spans_of telling.told)
 told_spans_adjoin rules telling in_range tells =
     events_adjoin rules telling.licences (shortest telling) telling.start telling.told in_range (tells (shortest telling) (shortest_has telling))

@@ -1,4 +1,4 @@
--- The epochs of a chain of parts: each is told together.
+-- The epochs of a chain of parts: each is reported together.
 use Rattle.std.proofs.Common.{◌≡◌, inl, inr, ℕ, Bool, true, false, List, [], ◌∷◌, refl, sym, subst, ◌∙◌, arith, eqb, if◌then◌else◌}
 use Rattle.std.specs.List.{AllByRecursion}
 use Rattle.std.proofs.lemmas.Bool.{eqb-true, eq-eqb}
@@ -14,7 +14,7 @@ module _ (rules : Rules) (file : File) (MayEnd : ℕ → Type 0) (HasWaited : Ty
   abbrev IsTold : Part → Type 0
   IsTold part = IsToldPart rules file MayEnd HasWaited part
 
-  -- parts of one epoch from this place on, behind this life
+  -- parts of one epoch from this place on, after this life
   record AreOfOne (place life : ℕ) (parts : List Part) : Type 0 where
     on : GoOnWithin place parts
     reads : EachReadsLife file life (segments_in parts)

@@ -1,5 +1,5 @@
 -- Where the last complete line of some first bytes ends: counted from a place, and counted from where events end that
--- were told from that place on, it is the same. So a licence of a later part is one of the epoch.
+-- were reported from that place on, it is the same. So a licence of a later part is one of the epoch.
 use Rattle.std.proofs.Common.{◌≡◌, inl, inr, ℕ, zero, suc, ◌+◌, ◌-◌, ◌<◌, ◌≤◌, false, List, [], ◌∷◌, ◌++◌, length, take, drop, refl, sym, ap, subst, ◌∙◌, arith}
 use Rattle.std.proofs.lemmas.Bool.{cases_Bool, cond-true, cond-false}
 use Rattle.std.proofs.lemmas.List.{drop-take}
@@ -110,7 +110,7 @@ module _ (rule : LineRule) where
 
 -- ---- an event's lines
 
--- it has them also where only the first bytes are there, up to its end or beyond
+-- it has them also if only the first bytes are there, up to its end or beyond
 row_there : (lines : LineRule) (life : List ℕ) (start end place : ℕ) → HasRow lines life start end → end ≤ place → HasRow lines (take place life) start end
 row_there lines life start end place r within =
     let from = row_from lines life start end r in

@@ -1,4 +1,4 @@
--- What a tail told by paths that the run shows.
+-- What a tail reported by paths that the run shows.
 use Rattle.std.proofs.Common.{ℕ, ◌+◌, List, [], ◌∷◌}
 use Rattle.std.specs.List.{AllByRecursion}
 use Rattle.event_tree.specs.declared.group_rule.GroupRule.{GroupRule}

@@ -1,4 +1,4 @@
--- The parts of all tails of a slot follow on, are what the tails' segments told, and are told.
+-- The parts of all tails of a slot follow on, are what the tails' segments reported, and are reported.
 use Rattle.std.proofs.Common.{◌≡◌, ℕ, List, [], ◌∷◌, ◌++◌, map, refl, sym, ap, subst, ◌∙◌}
 use Rattle.std.specs.List.{AllByRecursion, flat_map}
 use Rattle.std.proofs.lemmas.List.{map-append}
@@ -49,7 +49,7 @@ module _ (run : Run) (key : List ℕ) (rule : GroupRule) where
       ∙ ap (λ (l : List Reading). readings_of one.tail ++ l)
       (tails_are_read (epoch_after epoch (parts_by rule one)) (place_after place (parts_by rule one)) tails are.1)
 
--- ---- what they told
+-- ---- what they reported
 
 module _ (rules : Rules) (in_range : IsGroupRule rules.events) (file : File) (MayEnd : ℕ → Type 0) (HasWaited : Type 0) where
   abbrev IsTold : Part → Type 0

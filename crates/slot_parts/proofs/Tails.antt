@@ -1,4 +1,4 @@
--- The parts of one tail by its harvester's history, and the parts of tails, one behind the other.
+-- The parts of one tail by its harvester's history, and the parts of tails, one after another.
 use Rattle.std.proofs.Common.{◌≡◌, ◌≢◌, inl, inr, ℕ, ◌+◌, ◌<◌, ◌≤◌, nat_le, Bool, true, false, List, [], ◌∷◌, ◌++◌, length, map, Some, None, refl, sym, ap, subst, ◌∙◌, arith, if◌then◌else◌}
 use Rattle.std.specs.List.{AllByRecursion}
 use Rattle.std.proofs.lemmas.Bool.{leb-false, leb-true}
@@ -23,7 +23,7 @@ use Rattle.slot_parts.specs.Tellings.{AreNumberedFrom, AreReadFirst, part_of, pa
 use Rattle.slot_parts.proofs.Risen.{listed_then}
 use Rattle.slot_parts.proofs.Tellings.{telling_is_part, untold_is_part}
 
--- ---- tails, one behind the other
+-- ---- tails, one after another
 
 pub follow_both : (run : Run) (key : List ℕ) (epoch place : ℕ) (parts others : List Part) → FollowOn run key epoch place parts →
     FollowOn run key (epoch_after epoch parts) (place_after place parts) others → FollowOn run key epoch place (parts ++ others)
@@ -112,7 +112,7 @@ module _ (opening : ℕ) (rule : GroupRule) where
     tail_follows epoch place before telling tellings first segments follows are fall =
         (follows, later_follow telling.epoch (told_to (part_of opening rule telling first)) tellings segments are (later_ones first segments fall))
 
-  -- ---- what each told
+  -- ---- what each reported
 
   module _ (rules : Rules) (rule_is : rules.events ≡ rule) (in_range : IsGroupRule rules.events) (h : History) (file : File) (lines : h.rule.lines ≡ rules.lines)
       (MayEnd : ℕ → Type 0) (HasWaited : Type 0) (may : h.may_end ≡ true → MayEnd opening) (apart : 0 < timeout_of rules.events → LieApart h.moments (timeout_in h) → HasWaited) where

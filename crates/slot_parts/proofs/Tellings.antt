@@ -1,4 +1,4 @@
--- What a harvester told of an epoch is a part of its slot.
+-- What a harvester reported of an epoch is a part of its slot.
 use Rattle.std.proofs.Common.{◌≡◌, inl, inr, ℕ, ◌-◌, ◌<◌, ◌≤◌, true, List, [], ◌∷◌, ◌++◌, length, take, drop, refl, sym, ap, subst, ◌∙◌, take-append-drop, arith}
 use Rattle.std.specs.List.{AllByRecursion}
 use Rattle.event_tree.specs.declared.group_rule.GroupRule.{GroupRule}
@@ -21,7 +21,7 @@ use Rattle.slot_parts.proofs.Adjoining.{none_told, told_spans_adjoin}
 use Rattle.slot_parts.proofs.Singles.{single_needs_no_licence}
 use Rattle.slot_parts.proofs.Within.{none_of_nothing, told_within_read}
 
--- a segment by which nothing was told
+-- a segment by which nothing was reported
 pub untold_is_part : (rules : Rules) (file : File) (MayEnd : ℕ → Type 0) (HasWaited : Type 0) (opening epoch : ℕ) (segment : Segment) →
     IsToldPart rules file MayEnd HasWaited (untold_part opening epoch segment)
 untold_is_part rules file MayEnd HasWaited opening epoch segment = record {

@@ -1,4 +1,4 @@
--- The parts of an epoch, one behind the other, are told of one life.
+-- The parts of an epoch, one after another, are reported of one life.
 use Rattle.std.proofs.Common.{◌≡◌, ◌⊎◌, inl, inr, ℕ, zero, suc, ◌+◌, ◌<◌, ◌≤◌, List, [], ◌∷◌, ◌++◌, refl, sym, ap, subst, ◌∙◌, arith}
 use Rattle.std.specs.List.{All, AllByRecursion, Contains}
 use Rattle.std.proofs.lemmas.List.Elements.{All-from_recursion, Contains-append_left, Contains-append_right}
@@ -53,7 +53,7 @@ module _ (lines : LineRule) (life : List ℕ) (start next : ℕ) (segment : Segm
   each_earlier [] all = tt
   each_earlier (one ∷ licences) all = (earlier one all.0, each_earlier licences all.1)
 
--- ---- the life that is last read, where some byte was
+-- ---- the life that is last read, if some byte was
 
 pub last_same : (first other place : ℕ) (steps : List Step) → place < place_behind place steps → last_life first steps ≡ last_life other steps
 last_same first other place [] some = absurd (omega (arith, some))
@@ -79,7 +79,7 @@ module _ (rules : Rules) (file : File) (MayEnd : ℕ → Type 0) (HasWaited : Ty
   onward : (part : Part) (life : ℕ) → ReadsLife file life part.segment → IsTold part → part.segment.place ≤ told_to part
   onward part life reads is = ends_behind part.segment.place (spans_of part.told) (spans_adjoin part life reads is)
 
-  -- behind a place that is not the first byte the life stays
+  -- after a place that is not the first byte the life stays
   life_stays : (place life : ℕ) (parts : List Part) → 0 < place → GoOnWithin place parts → EachReadsLife file life (segments_in parts) → AllByRecursion IsTold parts →
       last_life_of life (segments_in parts) ≡ life
   life_stays place life [] some on reads told = refl
@@ -89,7 +89,7 @@ module _ (rules : Rules) (file : File) (MayEnd : ℕ → Type 0) (HasWaited : Ty
       let later = onward part (last_life life (steps_in part.segment)) reads.0 told.0 in
       life_stays (told_to part) (last_life life (steps_in part.segment)) parts (omega (arith, later, here)) on.1 reads.2 told.1 ∙ same
 
-  -- a part that told something did so of the life that is last read behind all parts
+  -- a part that reported something did so of the life that is last read after all parts
   module _ (life last : ℕ) (part : Part) (reads : ReadsLife file life part.segment) (is : IsTold part) (same : 0 < told_to part → last ≡ life) where
     some_told : (one : ToldEvent) (told : List ToldEvent) → part.told ≡ one ∷ told → last ≡ life
     some_told one told are =
@@ -135,7 +135,7 @@ module _ (rules : Rules) (file : File) (MayEnd : ℕ → Type 0) (HasWaited : Ty
       (stay_told rules (licences_in parts) (licences_in (part ∷ parts)) (life_of file last) (told_to part) (told_in parts)
       (all_among (licences_in parts) (licences_in (part ∷ parts)) (Contains-append_right part.licences (licences_in parts))) others))
 
-  -- what is licensed behind the events of a part is licensed from its place on
+  -- what is licensed after the events of a part is licensed from its place on
   all_from : (last start next : ℕ) → start ≤ next → ((place : ℕ) → next ≤ place →
       whole_lines_end rules.lines (life_of file last) start place ≡ whole_lines_end rules.lines (life_of file last) next place) →
       (parts : List Part) → AllByRecursion (Licensed last next) parts → AllByRecursion (Licensed last start) parts
@@ -204,7 +204,7 @@ module _ (rules : Rules) (file : File) (MayEnd : ℕ → Type 0) (HasWaited : Ty
           }
           by_later (inr same) = record { is = inr same }
 
-  -- where no licence is given, the parts are licensed from any place that is not behind theirs
+  -- if no licence is given, the parts are licensed from any place that is not after theirs
   none_licensed : (last start : ℕ) (parts : List Part) (other : ℕ) → licences_in parts ≡ [] → AllByRecursion (Licensed other start) parts → AllByRecursion (Licensed last start) parts
   none_licensed last start [] other none all = tt
   none_licensed last start (part ∷ parts) other none all = by_case part.licences refl none (none_licensed last start parts other)

@@ -1,4 +1,4 @@
--- Told events lie within the bytes of which they are told, and where no complete line is left, they end at the last one.
+-- Reported events lie within the bytes of which they are reported, and where no complete line is left, they end at the last one.
 use Rattle.std.proofs.Common.{◌≡◌, ◌≢◌, ◌⊎◌, inl, inr, ℕ, zero, suc, ◌+◌, ◌-◌, ◌≤◌, List, [], ◌∷◌, ◌++◌, Contains, length, take, drop, replicate, refl, sym, ap, subst, ◌∙◌, append-nil, arith, length-append}
 use Rattle.std.specs.List.{AllByRecursion}
 use Rattle.std.proofs.Math.Seq.{take-append_seam}
@@ -53,7 +53,7 @@ module _ (lines : LineRule) (life : List ℕ) where
 
     -- ---- all events
 
-    -- each ends at or behind this place, and within the bytes
+    -- each ends at or after this place, and within the bytes
     abbrev Within : ℕ → Extent → Type 0
     Within base span = (base ≤ span.end) × (span.end ≤ length life)
 
@@ -72,7 +72,7 @@ module _ (lines : LineRule) (life : List ℕ) where
         let end = end_from span.end spans are.2 in
         omega (arith, later, end)
 
-    -- the last line behind the start is the last one behind the events
+    -- the last line after the start is the last one after the events
     same_last_line : (start : ℕ) (spans : List Extent) → IsPartition lines rule licensed life start spans →
         row_end start (lines_from lines life start) ≡ row_end (last_end start spans) (lines_from lines life (last_end start spans))
     same_last_line start [] are = refl
@@ -122,7 +122,7 @@ told_within_read rules telling tells =
     subst (λ (n : ℕ). AllByRecursion (λ (one : ToldEvent). (telling.start ≤ one.span.end) × (one.span.end ≤ n)) telling.told) (shortest_length telling)
     (told_within rules telling.licences (shortest telling) telling.start telling.told (shortest_has telling).within (tells (shortest telling) (shortest_has telling)))
 
--- where no complete line is left, the events end at the last one of what was read
+-- if no complete line is left, the events end at the last one of what was read
 pub ends_at_last_line : (h : History) (life : List ℕ) → IsTelling (rules_in h) h.present → left_to_tell h ≡ [] →
     HasBytes h.present.start h.present.bytes life → whole_lines_end h.rule.lines life h.present.start (read_to h.present) ≡ told_to h.present
 ends_at_last_line h life tells none has =
@@ -143,7 +143,7 @@ ends_at_last_line h life tells none has =
     ∙ ap (λ (l : List ℕ). row_end end (complete_lines lines end l)) behind
     ∙ ap (row_end end) none
 
--- ---- where nothing was read, nothing was told
+-- ---- where nothing was read, nothing was reported
 
 some_row : (rule : GroupRule) (lines : LineRule) (licensed : ℕ → Type 0) (life : List ℕ) (start end : ℕ) → IsGroupRule rule → drop start life ≡ [] →
     IsNaturalEvent lines rule life start end ⊎ (IsFlushedEvent lines rule life start end × licensed end) → ⊥

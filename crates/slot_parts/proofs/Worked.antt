@@ -1,4 +1,4 @@
--- Worked chains of parts: a file that two tails told in one epoch and a third in the next, and what is refused.
+-- Worked chains of parts: a file that two tails reported in one epoch and a third in the next, and what is refused.
 use Rattle.std.proofs.Common.{◌≡◌, inl, inr, ℕ, zero, suc, ◌<◌, List, [], ◌∷◌, map, take, drop, Option, None, codes, refl, arith, lit<, lit≤}
 use Rattle.file_looks.specs.Reading.{EachReadsLife, bytes_read}
 use Rattle.file_looks.specs.Segment.{Segment}
@@ -50,7 +50,7 @@ readings_counted = refl
 risen_at_once : epochs_of 3 7 (part 2 4 0 (event 0 2 ∷ []) ∷ []) ≡ record { epoch = 3; start = 7; parts = [] } ∷ record { epoch = 4; start = 0; parts = part 2 4 0 (event 0 2 ∷ []) ∷ [] } ∷ []
 risen_at_once = refl
 
--- a tail that goes on from where the slot began tells events again
+-- a tail that goes on from where the slot began reports events again
 told_again : AreChained 0 0 (first ∷ part 5 0 0 (event 0 2 ∷ []) ∷ []) → ⊥
 told_again are = by_case are.1.0
   where
@@ -58,7 +58,7 @@ told_again are = by_case are.1.0
     by_case (inl same) = let n : 0 ≡ 4 = same.1 in omega (arith, n)
     by_case (inr next) = let n : 0 ≡ 1 = next.0 in omega (arith, n)
 
--- one that goes on from behind it passes events by
+-- one that goes on from after it passes events by
 passed_by : AreChained 0 0 (first ∷ part 5 0 6 (event 6 8 ∷ []) ∷ []) → ⊥
 passed_by are = by_case are.1.0
   where
@@ -66,7 +66,7 @@ passed_by are = by_case are.1.0
     by_case (inl same) = let n : 6 ≡ 4 = same.1 in omega (arith, n)
     by_case (inr next) = let n : 0 ≡ 1 = next.0 in omega (arith, n)
 
--- ---- two plain lines, each told by a tail of its own, are told together
+-- ---- two plain lines, each reported by a tail of its own, are reported together
 
 abbrev sight : Sight
 sight = record { life = 0; length = 4 }
@@ -131,7 +131,7 @@ module _ (MayEnd : ℕ → Type 0) (HasWaited : Type 0) where
   both_together =
       told_together plain file MayEnd HasWaited (lit≤ tt, lit≤ tt) 0 0 (one_read ∷ other_read ∷ []) (refl, (refl, tt)) both_read (one_is_told, (other_is_told, tt))
 
--- ---- the life may change while nothing is told, and not any more
+-- ---- the life may change while nothing is reported, and not any more
 
 abbrev at_life : ℕ → Look
 at_life number = record { question = Length; sight = record { life = number; length = 4 } }
@@ -151,7 +151,7 @@ changes_untold = ((inl refl, (inl refl, tt)), ((inr (inr refl), (inr (inr refl),
 last_one_counts : life_by (part 2 0 0 [] ∷ record { opening = 5; epoch = 0; segment = reads_life 1 0; licences = []; told = [] } ∷ []) ≡ 1
 last_one_counts = refl
 
--- behind two told bytes the other life is no shorter than what was told, and the premise is broken
+-- after two reported bytes the other life is no shorter than what was reported, and the premise is broken
 changes_told : SeesTruncations 0 (reads_life 0 0 ∷ reads_life 1 2 ∷ []) → ⊥
 changes_told seen = by_case seen.1.0.0
   where

@@ -4,7 +4,7 @@ use Rattle.std.proofs.Math.Seq.{take-add}
 use Rattle.std.proofs.lemmas.List.{take-append-le, drop-drop, take_all, length-drop}
 use Rattle.outside.specs.Streams.{GivesFront, ReadsOn}
 
--- so many bytes were read, and the rest of them is left
+-- this many bytes were read, and the rest of them is left
 abbrev pub AreRead : Option (List ℕ) → List ℕ → ℕ → Option (List ℕ) → Type 0
 AreRead start all count left = IfSome start (λ bytes. (left ≡ Some (drop count bytes)) × (all ≡ take count bytes))
 

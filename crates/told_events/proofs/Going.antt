@@ -1,4 +1,4 @@
--- Told events behind others, and their spans.
+-- Reported events after others, and their spans.
 use Rattle.std.proofs.Common.{◌≡◌, ◌⊎◌, ℕ, Bool, true, eqb, List, [], ◌∷◌, ◌++◌, inl, inr, refl}
 use Rattle.std.specs.List.{All, AllByRecursion, Contains, list_any}
 use Rattle.std.proofs.lemmas.Bool.{eq-eqb}

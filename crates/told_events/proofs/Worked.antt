@@ -1,4 +1,4 @@
--- Worked fates and told events, computed by the definitions, and what is refused.
+-- Worked fates and reported events, computed by the definitions, and what is refused.
 use Rattle.std.proofs.Common.{◌≡◌, ◌≢◌, inl, ℕ, ◌+◌, ◌≤◌, false, List, [], ◌∷◌, ◌++◌, length, None, codes, refl, sym, ap, ◌∙◌, arith, lit≤, length-append}
 use Rattle.std.specs.Fmt.{digits}
 use Rattle.event_json.specs.Json.{escape}
@@ -169,7 +169,7 @@ too_short (n ∷ before) between behind earlier later are apart =
 not_yet : LieApart (0 ∷ 4999 ∷ []) 5000 → ⊥
 not_yet apart = too_short apart.before apart.between apart.behind apart.earlier apart.later apart.are apart.apart
 
--- nothing licenses a flush behind the first of the two lines: after no look was the first line the last that was there
+-- nothing licenses a flush after the first of the two lines: after no look was the first line the last that was there
 abbrev ends_at : ℕ → ℕ
 ends_at place = whole_lines_end lines life 0 place
 

@@ -18,7 +18,7 @@ utf8 bytes is = IsUtf8-from_ascii bytes (λ i. below i (cases_lt i (length bytes
     below i (inl inside) = omega (arith, is.digits i 0 inside)
     below i (inr past) = rw (get_or_past bytes i 0 past) (omega arith)
 
--- what `parse` gives for it is its value, where that fits
+-- what `parse` gives for it is its value, if that fits
 pub parsed : {E : Type 0} (bytes : List ℕ) (r : Result ℕ E) → ParsesUnsigned 64 10 bytes r → IsDecimal bytes → SomeIff (result_ok r) (IsDecimal bytes × (value_of bytes < 2 ^ 64)) (value_of bytes)
 parsed {E} bytes r h is = by_case r (parse_digits (numerals_by_value _ tells_by_index) 64 bytes r h (λ i inside. is.digits i 0 inside))
   where

@@ -11,7 +11,7 @@ use Rattle.wire_base.specs.KeyOrder.{compare, IsBefore, IsInOrder, find, with_en
 use Rattle.wire_base.proofs.ByteOrder.{same_key, compare_same, compare_greater, compare_less, compare_trans, compare_rises}
 
 module _ {A : Type 0} (key_of : A → List ℕ) where
-  -- where the key is not, nothing goes
+  -- if the key is not, nothing goes
   pub without_absent : (key : List ℕ) (entries : List A) → find key_of key entries ≡ None → without_key key_of key entries ≡ entries
   without_absent key [] lacks = refl
   without_absent key (entry ∷ entries) lacks = by_case (is_eq (compare key (key_of entry))) (without_absent key entries) lacks
@@ -111,7 +111,7 @@ module _ {A : Type 0} (key_of : A → List ℕ) where
   at_tail : {entry : A} (entries : List A) (key : List ℕ) (i : ℕ) → IsAt key_of (entry ∷ entries) key (suc i) → IsAt key_of entries key i
   at_tail entries key i at = record { in_range = omega (arith, at.in_range); has_key = at.has_key }
 
-  -- the key comes behind the first of the entries
+  -- the key comes after the first of the entries
   behind_first : (entry : A) (entries : List A) (key : List ℕ) (i : ℕ) → IsInOrder key_of (entry ∷ entries) → IsAt key_of entries key i → compare key (key_of entry) ≡ Greater
   behind_first entry entries key i ordered at =
       compare_greater (key_of entry) key (subst (λ z. compare (key_of entry) z ≡ Less) (at.has_key entry) (first_below (key_of entry) entries i entry ordered.0 at.in_range))
@@ -230,7 +230,7 @@ module _ {A : Type 0} (key_of : A → List ℕ) where
   find_less : (key : List ℕ) (entry : A) (entries : List A) → compare key (key_of entry) ≡ Less → IsInOrder key_of (entry ∷ entries) → find key_of key (entry ∷ entries) ≡ None
   find_less key entry entries less ordered = rw less (find_before key entries (before_lesser key (key_of entry) entries less ordered.0))
 
-  -- behind a first entry of one key, what each key has is the same
+  -- after a first entry of one key, what each key has is the same
   same_later : (a b : A) (entries others : List A) → (key_of a) ≡ (key_of b) → IsBefore key_of (key_of a) entries → IsBefore key_of (key_of b) others → ((key : List ℕ) → find key_of key (a ∷ entries) ≡ find key_of key (b ∷ others)) → (key : List ℕ) → find key_of key entries ≡ find key_of key others
   same_later a b entries others keys one two same key = by_key (compare key (key_of a)) refl
     where

@@ -4,7 +4,7 @@ use Rattle.registry_log.specs.OnlyRead.{IsOnlyRead}
 use Rattle.registry_log.specs.RecordReading.{IsFront}
 use Rattle.registry_log.proofs.stretch.read_up_to.Given as goal
 
--- what was read so far stands behind what was there, and the disk was only read
+-- what was read so far follows what was there, and the disk was only read
 abbrev pub invariant-pieces : goal.invariant-pieces
 invariant-pieces g l = record {
   in_range : IsPlace (l.place + vec_len l.bytes);

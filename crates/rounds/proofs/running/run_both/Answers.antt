@@ -8,7 +8,7 @@ use Rattle.rounds.proofs.Crossing.{lane_send}
 use Rattle.rounds.proofs.Each.{each_mapped, pairs_mapped}
 use Rattle.rounds.proofs.running.run_both.Goals as goal
 
--- behind all lanes, where there is one worker alone
+-- after all lanes, if there is one worker alone
 pub run_parts-requires-send-A : goal.run_parts-requires-send-A
 run_parts-requires-send-A g c κs within = search (rules, sendable, crosses, lane_send) depth 40
 

@@ -4,7 +4,7 @@ use Rattle.lumber_client.specs.Standing.{StandsFor}
 use Rattle.settled_parcels.specs.Handing.{with_all_handed}
 use Rattle.settled_parcels.proofs.settled.hand_out_settled.Given as goal
 
--- so many of the acknowledged parcels were handed out
+-- this many of the acknowledged parcels were handed out
 abbrev pub invariant-parcels : goal.invariant-parcels
 invariant-parcels l = record {
   handed : l.window.acknowledged + l.count ≡ l.initial.window.acknowledged;

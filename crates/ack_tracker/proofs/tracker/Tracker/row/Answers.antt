@@ -10,7 +10,7 @@ use Rattle.ack_tracker.specs.Tracked.{Tracked}
 use Rattle.ack_tracker.proofs.Listed.{row_some, says_none, says_some}
 use Rattle.ack_tracker.proofs.tracker.Tracker.row.Goals as goal
 
--- the row where it stands
+-- the row where it is
 made : FileState → Row
 made file = record { key = file.key; path = file.path; epoch = record { 0 = file.epoch }; offset = file.covered.end; changed = record { 0 = file.changed } }
 

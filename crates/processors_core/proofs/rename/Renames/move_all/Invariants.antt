@@ -4,7 +4,7 @@ use Rattle.processors_core.specs.Pairs.{pair_of}
 use Rattle.processors_core.specs.Renamed.{pairs_renamed}
 use Rattle.processors_core.proofs.rename.Renames.move_all.Given as goal
 
--- the pairs that are left make of this tree what all make of the first one, which stands before the first pair
+-- the pairs that are left make of this tree what all make of the first one, which is before the first pair
 abbrev pub invariant-loop-pair : goal.invariant-loop-pair
 invariant-loop-pair l = record {
   so_far : pairs_renamed l.self.ignore_missing l.self.fail_on_error (map pair_of (drop l.pair-index l.self.pairs.items)) (value_of l.tree)
