@@ -31,7 +31,7 @@ fn asked(rt: &HostRuntime) -> Result<(Vec<Text>, Places), NoMemory> {
 }
 
 fn out_of_memory(rt: &HostRuntime) -> ExitCode {
-    // Where the line cannot be written either, the exit status still tells.
+    // If the line cannot be written either, the exit status still says it.
     let _ = status_line(&Status::NoMemory, &mut StdSink::new(rt));
     ExitCode::from(Status::NoMemory.code())
 }

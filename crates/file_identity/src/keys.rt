@@ -47,7 +47,7 @@ pub fn opened_key<T: Tail>(
 ) -> Result<Identity, IdentityError>
     requires { IsAskable rule.now }
 
-    // What the asking gave, by its own looks where the tail tells them.
+    // What the asking gave, by its own looks if they are known.
     ensures answer { IfOk result (IsAnswer input.now rule.now path.now (T.numbers tail.old)) }
     ensures asked { IfSome (T.told tail.old) (λ told. IsAsked input.now rule.now path.now (T.numbers tail.old) told result (T.told tail.new)) }
     ensures refused { IfErr result (IsRefusedOpened rule.now (T.numbers tail.old)) }
@@ -86,7 +86,7 @@ pub fn has_fingerprint<T: Tail>(
     requires some { 0 < length }
     requires in_range { IsPlace (offset + length) }
 
-    // Whether the asking gave this key, by its own looks where the tail tells them.
+    // Whether the asking gave this key, by its own looks if they are known.
     ensures has { result ≡ Ok true → IsOfBytes input.now length key.now }
     ensures asked { IfSome (T.told tail.old) (λ told. IsCompared input.now
         (Fingerprint offset length) key.now (T.numbers tail.old) told result (T.told tail.new)) }

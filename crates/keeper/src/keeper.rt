@@ -157,7 +157,7 @@ impl Keeper {
         ensures b_kept_where_empty { IfEmpty result (b.new ≡ b.old) }
 
         // At every moment of the turn the areas give the rows that were stored before it, after some
-        // of the updates. Where the store is open then, they are as the next turn wants them.
+        // of the updates. If the store is open then, they are as the next turn wants them.
         ensures commits { AreSettled D.contents D.images a.old b.old (chosen_by self.old.store) →
             Commits D.contents D.images D.moment D.images_since self.old.store self.new.store
             self.old.tracked.opening self.old.tracked.committed self.new.tracked.notes

@@ -71,7 +71,7 @@ pub(crate) struct Log {
     noted: u64,
     /// How many listings failed in all.
     pub(crate) failed_in_all: u64,
-    // A count that stands at its end counts no more.
+    // A count that is at its end counts no more.
     ghost counted: { noted < 2 ^ 64 - 1 → length (events_of last ++ replicate failed ListingFailed) ≡ noted + failed_in_all },
     ghost few_since: { failed ≤ failed_in_all },
 }

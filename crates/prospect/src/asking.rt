@@ -39,7 +39,7 @@ pub fn ask_files<F: Folder>(
     requires askable { AreAskable inputs.now }
     requires of_inputs { All (λ one. one.input < length inputs.now) listed.items }
 
-    // What was done, where the folder tells it.
+    // What was done, if the folder is known.
     ensures asked { IfOk result (λ keyed. IfSome (F.told folder.old)
         (λ told. AsksFiles inputs.now told listed.items keyed (F.told folder.new))) }
     ensures ended { OnErr result (IfSome (F.told folder.old)

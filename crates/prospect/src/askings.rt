@@ -35,7 +35,7 @@ pub fn ask_past_faults<F: Folder>(
     requires askable { AreAskable inputs.now }
     requires of_inputs { All (λ one. one.input < length inputs.now) listed.items }
 
-    // What was done, where the folder tells it.
+    // What was done, if the folder is known.
     ensures tried { IfOk result (λ askings. IfSome (F.told folder.old)
         (λ told. TriesFiles inputs.now told listed.items askings (F.told folder.new))) }
     ensures ended { OnErr result (IfSome (F.told folder.old)

@@ -38,7 +38,7 @@ pub fn list_past_faults<F: Folder>(
 ) -> Result<Listings, NoMemory>
     requires globs { HaveGlobs inputs.now }
 
-    // What was listed, and what failed, where the folder tells it.
+    // What was listed, and what failed, if the folder is known.
     ensures served { IfOk result (λ all. IfOk all.files (λ files. IfSome (F.told folder.old)
         (λ told. ServesFiles inputs.now told all.failed.items files.items
         (F.faults folder.new) (F.told folder.new)))) }
@@ -49,7 +49,7 @@ pub fn list_past_faults<F: Folder>(
         TriesSome (globs_of inputs.now) told (F.faults folder.new) (F.told folder.new))) }
     ensures untold { F.told folder.old ≡ None → F.told folder.new ≡ None }
 
-    // Where none failed the list is that of a whole scan, and else it is none.
+    // If none failed the list is that of a whole scan, and else it is none.
     ensures whole { IfOk result (λ all. all.failed.items ≡ [] → IfOk all.files (λ files.
         IfSome (F.told folder.old)
         (λ told. ScansFiles inputs.now told files.items (F.told folder.new)))) }
@@ -59,7 +59,7 @@ pub fn list_past_faults<F: Folder>(
     ensures partial { IfOk result (λ all. all.failed.items ≢ [] → IfSome (F.told folder.old)
         (λ told. IsNoWholeList (globs_of inputs.now) told (F.told folder.new))) }
 
-    // What is known of the files, whether or not the folder tells anything.
+    // What is known of the files, whether or not the folder is known.
     ensures in_order { IfOk result (λ all. IfOk all.files (λ files. AreInOrder files.items)) }
     ensures apart { IfOk result (λ all. IfOk all.files (λ files. AreApart files.items)) }
     ensures keyed { IfOk result (λ all. IfOk all.files (λ files.

@@ -45,7 +45,7 @@ pub fn front_body(alloc: Global, ops: &[Op], most: usize) -> Result<Front, NoMem
         ⊎ (most < length (body_bytes (take (front.count + 1) ops.now)))) }
 {
     let mut texts = Vec::new(alloc);
-    // a bracket or a comma in front of each operation, and the last bracket
+    // a bracket or a comma before each operation, and the last bracket
     let mut size = 1;
     for op in ops {
         let text = operation_text(alloc, op)?;

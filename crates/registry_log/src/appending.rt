@@ -30,7 +30,7 @@ pub fn append<D: Disk>(alloc: Global, disk: &mut D, end: u64, ops: &[Op]) -> Res
     ensures last_gate { IfOk result (λ gate. gate ≡ gate_behind end ops.now) }
     ensures next_in_range { IfOk result (λ gate. gate < MAX_PLACE) }
 
-    // Of an area that is opened, and whose last gate stands at `end`: what it holds afterwards, and how that reads.
+    // Of an area that is opened, and whose last gate is at `end`: what it holds afterwards, and how that reads.
     ensures appended { (area : List ℕ) (generation : ℕ) (rows : List Row) →
         D.contents disk.old ≡ Some area → MayAppend area generation rows end ops.now →
         OnOk result (D.contents disk.new ≡ Some (appended_bytes area end ops.now)) }
@@ -39,7 +39,7 @@ pub fn append<D: Disk>(alloc: Global, disk: &mut D, end: u64, ops: &[Op]) -> Res
         IfOk result (IsOpened (appended_bytes area end ops.now) generation (replay_on rows ops.now)) }
     ensures durable { OnOk result (Only (D.contents disk.new) (D.images disk.new)) }
 
-    // Where nothing was pending, a crash at any moment of the call leaves the rows before or the rows after.
+    // If nothing was pending, a crash at any moment of the call leaves the rows before or the rows after.
     ensures each_moment { Only (D.contents disk.old) (D.images disk.old) →
         (area : List ℕ) (generation : ℕ) (rows : List Row) →
         D.contents disk.old ≡ Some area → MayAppend area generation rows end ops.now →
@@ -78,7 +78,7 @@ pub fn append_body<D: Disk>(
     ensures last_gate { IfOk result (λ gate. gate ≡ gate_behind end _ops.now) }
     ensures next_in_range { IfOk result (λ gate. gate < MAX_PLACE) }
 
-    // Of an area that is opened, and whose last gate stands at `end`: what it holds afterwards, and how that reads.
+    // Of an area that is opened, and whose last gate is at `end`: what it holds afterwards, and how that reads.
     ensures appended { (area : List ℕ) (generation : ℕ) (rows : List Row) →
         D.contents disk.old ≡ Some area → MayAppend area generation rows end _ops.now →
         OnOk result (D.contents disk.new ≡ Some (appended_bytes area end _ops.now)) }
@@ -87,7 +87,7 @@ pub fn append_body<D: Disk>(
         IfOk result (IsOpened (appended_bytes area end _ops.now) generation (replay_on rows _ops.now)) }
     ensures durable { OnOk result (Only (D.contents disk.new) (D.images disk.new)) }
 
-    // Where nothing was pending, a crash at any moment of the call leaves the rows before or the rows after.
+    // If nothing was pending, a crash at any moment of the call leaves the rows before or the rows after.
     ensures each_moment { Only (D.contents disk.old) (D.images disk.old) →
         (area : List ℕ) (generation : ℕ) (rows : List Row) →
         D.contents disk.old ≡ Some area → MayAppend area generation rows end _ops.now →

@@ -41,7 +41,7 @@ pub fn start_area<D: Disk>(
     ensures opened { result ≢ Err LogError.NoMemory → IsState (area_bytes generation rows.now)
         (Opened generation rows.now 29 (length (area_bytes generation rows.now) - 1)) }
 
-    // Where nothing was pending, a crash at any moment of the call leaves one of these.
+    // If nothing was pending, a crash at any moment of the call leaves one of these.
     ensures each_moment { Only (D.contents disk.old) (D.images disk.old) →
         IfSome (D.contents disk.old) (λ before. LeavesOnly D.moment D.images_since disk.old disk.new
         (IsPartStarted generation rows.now before)) }

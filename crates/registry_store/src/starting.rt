@@ -39,7 +39,7 @@ pub fn checkpoint<D: Disk>(
     ensures bodies_fit { OnOk result
         (All (λ ops. length (body_bytes ops) ≤ MAX_BODY) (groups (sets rows.now))) }
 
-    // Where nothing was pending, a crash at any moment of the call leaves what was there, nothing that is read, or all.
+    // If nothing was pending, a crash at any moment of the call leaves what was there, nothing that is read, or all.
     ensures each_moment { Only (D.contents into.old) (D.images into.old) →
         IfSome (D.contents into.old) (λ before. LeavesOnly D.moment D.images_since into.old into.new
         (IsPartStarted generation rows.now before)) }

@@ -71,7 +71,7 @@ impl Store {
             IfOk result (λ store. GoesOn D.contents D.moment D.images_since store.generation store.rows []
             a.old b.old a.new b.new) }
 
-        // Area A alone is written, and only where the registry is empty.
+        // Only area A is written, and only if the registry is empty.
         ensures a_only_read { (first second : List ℕ) →
             D.contents a.old ≡ Some first → D.contents b.old ≡ Some second → ¬ IsChoice first second Fresh →
             IsOnlyRead D.contents D.images D.moment D.images_since D.faults a.old a.new }
@@ -130,7 +130,7 @@ impl Store {
         ensures rows { OnOk result (self.new.rows ≡ replay_on self.old.rows ops.now) }
         ensures rows_after_an_error { OnErr result (AreAfterSome self.old.rows ops.now self.new.rows) }
 
-        // Where the areas are as `open` or an earlier commit left them, they are so again.
+        // If the areas are as `open` or an earlier commit left them, they are the same again.
         ensures settled { AreSettled D.contents D.images a.old b.old (chosen_by self.old) →
             OnOk result (AreSettled D.contents D.images a.new b.new (chosen_by self.new)) }
 
@@ -152,7 +152,7 @@ impl Store {
             (first second : List ℕ) → D.contents a.new ≡ Some first → D.contents b.new ≡ Some second →
             GivesSome self.old.rows ops.now first second }
 
-        // One area alone is written, and used then: the other one where a checkpoint is due.
+        // Only one area is written, and used then: the other one if a checkpoint is due.
         ensures other_area_kept { let other = other_area (written_area self.old ops.now) in
             of_area other a.new b.new ≡ of_area other a.old b.old }
         ensures area { OnOk result (self.new.area ≡ written_area self.old ops.now) }

@@ -105,7 +105,7 @@ pub(crate) fn run_both<
         shift.entry.outlets.desk.now.capacity shift.entry.when.now) carriers.old carriers.new }
 {
     let turns = Turns { rt, shift };
-    // One worker alone finds behind all lanes what they gave; a thread for it costs more than it gives.
+    // A single worker finds after all lanes what they gave; a thread for it costs more than it gives.
     if carriers.len() == 1 {
         let none: &mut [Carrier<W, L>] = &mut [];
         run_parts(rt, &turns, lanes, none);
@@ -145,7 +145,7 @@ pub(crate) fn run_all<
         (disk_words D.contents D.images D.moment D.images_since D.faults)
         storing.old storing.new }
 {
-    // Beside one worker alone the keeper stores first what is in the box, and no thread is begun for it.
+    // Beside a single worker the keeper stores first what is in the box, and no thread is begun for it.
     if carriers.len() == 1 {
         run_storing(rt, shift, storing);
         run_both(rt, shift, lanes, carriers);
