@@ -7,7 +7,7 @@ use std::collections::BTreeMap;
 use std::marker::Model;
 use wire_base::{NoMemory, Span};
 
-/// Up to where all is settled from a base on, and where settled intervals after that begin and end.
+/// Up to which place all is settled from a base on, and where settled intervals after that begin and end.
 #[derive(Debug, Drop)]
 pub(crate) struct Coverage {
     end: u64,

@@ -90,7 +90,7 @@ impl Keeper {
         }
     }
 
-    /// Lets the keeper go, and gives back its store and its pass.
+    /// Releases the keeper, and gives back its store and its pass.
     pub fn end(self) -> (Store, CollectPass)
         ensures store { result.0 ≡ self.store }
         ensures pass { result.1 ≡ self.pass }

@@ -188,7 +188,7 @@ impl<T: Tail> Lane<T> {
         self.post = Some(post);
     }
 
-    /// Lets the lane go, and gives its passes back. What it holds is given up.
+    /// Releases the lane, and gives its passes back. What it holds is given up.
     pub fn end(self) -> (PutPass, PostPass)
         requires passes { IsSome self.put × IsSome self.post }
         requires no_harvesters { (laning self).harvesters ≡ [] }
@@ -235,7 +235,7 @@ impl<T: Tail> Lane<T> {
         }
     }
 
-    /// Lets the harvester of this seat go; the last one takes the seat. Takes no memory, and little time.
+    /// Releases the harvester of this seat; the last one takes the seat. Takes no memory, and little time.
     pub fn release_at(&mut self, seat: usize) -> Harvester<T>
         requires { seat < length (laning self.old).harvesters }
         ensures { ReleasesAt seat (laning self.old) (laning self.new) result }

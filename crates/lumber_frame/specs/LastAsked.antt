@@ -1,6 +1,6 @@
 -- What a talk acknowledges if each acknowledgement asks of the last window that was wholly out before its first byte
 -- came (Lumberjack v2, a client with one window in flight). With several in flight `Acknowledged.antt` and
--- `PeerFault.antt` hold in its place; a law says where both are the same.
+-- `PeerFault.antt` hold in its place; a law says when both are the same.
 use Rattle.std.specs.Prelude.{◌≡◌, ◌⊎◌, ℕ, ◌+◌, ◌*◌, ◌<◌, List, [], ◌∷◌, length, drop, slice_index, nat_le, if◌then◌else◌}
 use Rattle.wire_base.specs.declared.talk.Piece.{Piece}
 use Rattle.lumber_frame.specs.Talk.{out_bytes, in_bytes, out_before}

@@ -35,7 +35,7 @@ pairs_of readings showings = flat_map (pairs_with readings) showings
 abbrev pub CoversEntry : Pair → Type 0
 CoversEntry pair = IsCovered pair.reading.globs pair.entry.path
 
--- inode and device, where they were given
+-- inode and device, if they were given
 abbrev pub AreNumbers : Option (ℕ × ℕ) → Type 0
 AreNumbers numbers = IfSome numbers (λ both. (both.0 < 2 ^ 64) × (both.1 < 2 ^ 64))
 

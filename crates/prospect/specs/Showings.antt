@@ -18,7 +18,7 @@ abbrev pub DifferInNumbers : List Entry → Type 0
 DifferInNumbers [] = Unit {0}
 DifferInNumbers (one ∷ others) = (¬ (HasNumbers others one.native)) × DifferInNumbers others
 
--- the entry stands after them, unless one with its numbers is there
+-- the entry comes after them, unless one with its numbers is there
 abbrev pub AddsEntry : Entry → List Entry → List Entry → Type 0
 AddsEntry entry old new =
     (HasNumbers old entry.native × (new ≡ old))

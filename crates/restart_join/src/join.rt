@@ -21,7 +21,7 @@ use wire_base::{Begin, Epoch, NoMemory, Slot, Text};
 /// order, with slots from `first` on in that order.
 ///
 /// `TooMany` names what is at its limit, and the path of the first file that needs one more: files, counted with
-/// all rows and with each key of the scan that has none; epochs, where a file is shorter than its row's offset; slots.
+/// all rows and with each key of the scan that has none; epochs, if a file is shorter than its row's offset; slots.
 pub fn join_rows(
     alloc: Global,
     rows: &Rows,

@@ -124,5 +124,5 @@ pub record SettlingKeeps {T W L D : Type 0} (words : Words T W L D) (queue : Bou
   pub slots : begins_of (lanings new.lanes.items) ≡ begins_of (lanings old.lanes.items)
   -- the areas are the same disks
   pub same_objects : SameObjects old.storing new.storing
-  -- and where they reported what they hold, they report it still
+  -- and if they reported what they hold, they report it still
   pub still_tell : StillTell words.disks.contents old.storing new.storing

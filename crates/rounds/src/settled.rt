@@ -29,7 +29,7 @@ impl<T: Tail, L: Link, W: Wire<Link = L>> Crew<T, W, L> {
     }
 
     /// Whether all is done: no lane holds anything, no further turn of a file would find anything, each span that was reported is
-    /// shipped or dropped, and all of that is stored. If 2^64 - 1 spans were told, it is not known.
+    /// shipped or dropped, and all of that is stored. If 2^64 - 1 spans were reported, it is not known.
     pub fn is_done(&self, keeper: &Keeper) -> bool
         ensures done { OnTrue result (IsDoneIn self.now keeper.now) }
         ensures work { OnFalse result (¬ (IsDoneIn self.now keeper.now)) }

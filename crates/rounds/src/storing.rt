@@ -33,8 +33,8 @@ impl Stored {
     }
 }
 
-/// The keeper, and the two areas that only it writes. It is written out where they are: of a call that made it no caller could
-/// say what they come to.
+/// The keeper, and the two areas that only it writes. Callers write this value out themselves: through a call that made it, no
+/// contract could say what the areas come to.
 #[derive(Drop)]
 pub struct Storing<'a, D> {
     pub keeper: &'a mut Keeper,

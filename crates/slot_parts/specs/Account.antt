@@ -62,7 +62,7 @@ pub record IsShownBy (run : Run) (one : SlotAccount) (opening : ℕ) (event : To
 abbrev pub IsShownPart : Run → SlotAccount → Part → Type 0
 IsShownPart run one part = AllByRecursion (IsShownBy run one part.opening) part.told
 
--- of what was there as it was opened the tail reports such looks, and its reads that count are where it read up to
+-- of what was there as it was opened the tail reports such looks, and its reads that count are at the place up to which it read
 pub record IsLookedTail (file : File) (tail : FollowedTail) : Type 0 where
   pub begun : Sight
   pub looks : AreLooks file begun tail.looks

@@ -35,7 +35,7 @@ parts_in rule tails = flat_map (parts_by rule) tails
 abbrev pub started : ℕ → ℕ → Start
 started epoch base = record { epoch = epoch; base = base }
 
--- its history begins where the file was reported up to, by the size with which it was listed last
+-- its history begins at the place up to which the file was reported, by the size with which it was listed last
 pub record GoesOnBehind (run : Run) (key : List ℕ) (epoch place : ℕ) (one : ToldTail) : Type 0 where
   pub size : ℕ
   pub listed : WasListedWith run key one.tail.opening (λ n. n ≡ size)
