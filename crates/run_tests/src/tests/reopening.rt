@@ -7,7 +7,7 @@ use crate::tests::harvesters::rules::text;
 use crate::tests::scans::settings;
 use event_tree::Settings;
 use keeper::Keeper;
-use lanes::Outlets;
+use lanes::{Lane, Outlets};
 use mem_queue::EventQueue;
 use outside_mem::{
     Due, MemChange, MemDisk, MemFile, MemFolder, MemLink, MemStep, MemTail, MemWire,
@@ -17,7 +17,9 @@ use registry_store::Store;
 use report::Why;
 use restart_join::Start;
 use rounds::{Crew, lanes_of};
-use run_steps::{Admission, Context, Opening, Reopening, goes_on, open_again, scan_again};
+use run_steps::{
+    Admission, Context, Opening, Reopening, close_resting, goes_on, open_again, scan_again,
+};
 use settle_box::{CollectPass, SettleBox};
 use std::alloc::Global;
 use std::test::Fail;
@@ -131,8 +133,34 @@ fn keeper(alloc: Global, collect: CollectPass) -> Result<Keeper, Fail> {
     }
 }
 
-/// Opens the file again that was told up to byte 4 of epoch 2, in a crew of one lane: what comes of it, and how many files the lane has
-/// then.
+/// What a closing of the lane's first file comes to: it is closed only if it is at rest.
+fn closing(folder: &mut MemFolder, lane: &mut Lane<MemTail>) -> &'static str {
+    if lane.len() > 0 && close_resting(folder, lane, 0) {
+        "closed"
+    } else {
+        "kept"
+    }
+}
+
+/// A closing before the file is turned, and one after its end was found.
+fn closings(
+    alloc: Global,
+    folder: &mut MemFolder,
+    lane: &mut Lane<MemTail>,
+) -> (&'static str, &'static str) {
+    let before = closing(folder, lane);
+    for _ in 0..5 {
+        if let Some(harvester) = lane.find(Slot(0)) {
+            if !harvester.changed() {
+                let _ = harvester.turn(alloc, Moment(1_000), false);
+            }
+        }
+    }
+    (before, closing(folder, lane))
+}
+
+/// Opens the file again that was told up to byte 4 of epoch 2, in a crew of one lane: what comes of it, how many files the lane has
+/// then, and whether its first file is closed before it is turned, and after.
 fn open_in_a_lane(
     alloc: Global,
     settings: &Settings,
@@ -173,16 +201,17 @@ fn open_in_a_lane(
     let lanes = lanes_of(alloc, outlets, put, post, 1)?;
     let mut crew: Crew<MemTail, MemWire, MemLink> = Crew::new(lanes, Vec::new(alloc), 4);
     let result = open_again(context, reopening, folder, &mut crew, &mut keeper);
-    let (lanes, carriers) = crew.end();
+    let (mut lanes, carriers) = crew.end();
     carriers.destroy_empty();
     let Ok(admission) = result else {
         return Err(Fail::new("the file ended the run"));
     };
-    let files = match lanes.first() {
-        Some(lane) => lane.len(),
-        None => 0,
+    let Some((lane, _)) = lanes.as_mut_slice().split_first_mut() else {
+        return Err(Fail::new("there is no lane"));
     };
-    Ok(format!(in alloc; "{} {}", came(admission), files)?)
+    let files = lane.len();
+    let (before, after) = closings(alloc, folder, lane);
+    Ok(format!(in alloc; "{} {} {} {}", came(admission), files, before, after)?)
 }
 
 fn opened(alloc: Global, case: &Case) -> Result<String, Fail> {
@@ -195,9 +224,9 @@ fn opened(alloc: Global, case: &Case) -> Result<String, Fail> {
 #[test]
 fn files_are_opened_again(rt: HostRuntime) -> Result<(), Fail> {
     let rows: [Case; 3] = [
-        (None, &[], "followed 1"),
-        (Some(2), &[], "gone 0"),
-        (None, &[2], "failed 0"),
+        (None, &[], "followed 1 kept closed"),
+        (Some(2), &[], "gone 0 kept kept"),
+        (None, &[2], "failed 0 kept kept"),
     ];
     for case in &rows {
         assert_eq!(rt; opened(rt.alloc(), case)?.as_str(), case.2);
