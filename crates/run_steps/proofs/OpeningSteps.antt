@@ -384,6 +384,7 @@ module _ {T W L D F K B : Type 0} (words : StepWords T W L D F K B) (reads : (di
         key = unopened.key;
         keyed = unopened.keyed;
         starts = unopened.starts;
+        new_key = record { no_file = unopened.new_key.no_file; no_hidden = unopened.new_key.no_hidden };
         free = record { no_file = unopened.free.no_file; no_hidden = unopened.free.no_hidden };
       }
 

@@ -41,7 +41,7 @@ pub record ClosesTail {T : Type 0} (tails : TailWords T) (one : Harvester T) (ol
   pub closes : Closes tails one.tail old.folder new.folder
   pub in_epoch : IsInEpoch tails one
 
--- it is at rest where it was read to, or its file has another key or none
+-- it is at rest, or is turned no more: its file has another key or none, or its last epoch is over
 abbrev pub IsResting : {T : Type 0} → Harvester T → Type 0
 IsResting harvester = IsTrue harvester.rests ⊎ IsChanged harvester
 

@@ -1,5 +1,6 @@
 -- Files that a run forgets (Filebeat reference, `clean_removed`; this project's profile): a later whole scan showed no file with the key, and the last
--- tail of the file is closed. Its end was found before that, where it was asked to end, or the tail was closed before the scan was made.
+-- tail of the file is closed. Its end was found before that, where it was asked to end, or the tail was closed before the scan was made, if the folder
+-- shows both.
 use Rattle.std.specs.Prelude.{◌≡◌, ◌⊎◌, true, List, Contains, IfSome}
 use Rattle.std.specs.List.{AllByRecursion}
 use Rattle.accounts.specs.FollowedFile.{MayReopenAt}

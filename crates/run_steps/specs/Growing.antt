@@ -1,6 +1,6 @@
 -- How what is known of a run grows in a step that tells its keeper nothing itself (this project's profile): it is the same run, of which more
 -- moments and scans may be known, more tails that were closed, and more notes that the keeper collected. What it opened, and what it told its keeper,
--- is as it was.
+-- is as it was. Nothing is said of what lanes and workers have.
 use Rattle.std.specs.Prelude.{◌≡◌, List, ◌++◌}
 use Rattle.rounds.specs.Words.{Words}
 use Rattle.run_steps.specs.Began.{Began}

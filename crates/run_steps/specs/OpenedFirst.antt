@@ -22,11 +22,17 @@ pub record IsFreeSlot (slot : Slot) (so_far : SoFar) : Type 0 where
   pub no_file : (one : Opened) → Contains so_far.opened one → one.begin.slot ≢ slot
   pub no_hidden : (hidden : Hidden) → Contains so_far.hidden hidden → hidden.slot ≢ slot
 
--- the newest scan gave the entry of the file, which begins in a free slot where a file of its key begins
+-- no file that was opened has the key, and no hidden row has it
+pub record IsNewKey (key : List ℕ) (so_far : SoFar) : Type 0 where
+  pub no_file : (one : Opened) → Contains so_far.opened one → one.begin.key ≢ key
+  pub no_hidden : (hidden : Hidden) → Contains so_far.hidden hidden → hidden.row.key ≢ key
+
+-- the newest scan gave the entry of the file, whose key is that of no other one, and which begins in a free slot where a file of its key begins
 pub record IsListedUnopened {D : Type 0} (start : Began D) (file : ListedFile) (so_far : SoFar) : Type 0 where
   pub newest : GaveEntryLast so_far.scans file.listed
   pub key : List ℕ
   pub keyed : file.listed.key ≡ Some key
+  pub new_key : IsNewKey key so_far
   pub starts : IsKnownStart start.opening start.listed file.slot key file.start
   pub free : IsFreeSlot file.slot so_far
 

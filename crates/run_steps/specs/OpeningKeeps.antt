@@ -1,5 +1,5 @@
 -- What a step of a run keeps in which a file may be opened (this project's profile): all that each step keeps, but that a harvester may come, with one
--- more open tail. Each other step keeps it, too, and two steps in a row do.
+-- more open tail.
 use Rattle.std.specs.Prelude.{◌≡◌, ◌⊎◌, ◌≤◌, ◌<◌, ◌+◌, ◌-◌, ◌^◌, ℕ, [], ◌∷◌, List, length, None, Option, Some, IfNone, Result, Ok, Err}
 use Rattle.keeper.specs.Keeping.{Keeping}
 use Rattle.outside.specs.Folders.{Event}

@@ -18,7 +18,7 @@ pub data Phase : Type 0 where
   OutOfEpochs : Slot → Phase
   -- the run was stopped while it read; tails may be closed
   Halted : Phase
-  -- files are turned, also after a read of them failed; between rounds tails may be closed of files that may be opened again, and files opened
+  -- files are turned, also after a read of them failed; between rounds tails may be closed of files that may be opened again
   Following : Phase
   -- the run was stopped while it followed its files; tails may be closed
   HaltedFollowing : Phase

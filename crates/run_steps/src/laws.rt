@@ -78,7 +78,7 @@ pub fn following_goes_on<F: Folder, L: Link, W: Wire<Link = L>, D: Disk, K: Cloc
 /// A file that is opened for the first time after a later scan is a step of each run that scans its folder again: what stood before it
 /// stands after it, with one more file if the file is followed, and rounds may follow. It supposes that the newest scan gave the entry
 /// by which the file is opened, with at least the size of the place from which it is read, and that no file and no hidden row has its
-/// slot. A law; it computes nothing.
+/// slot or its key. A law; it computes nothing.
 pub fn openings_are_steps<F: Folder, L: Link, W: Wire<Link = L>, D: Disk, K: Clock, B: Bell>()
     ensures steps { OpeningsAreSteps
         (step_words F.Folder F.Tail.Tail L.Link W.Wire D.Disk K.Clock B.Bell) }
